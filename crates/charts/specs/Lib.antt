@@ -1,0 +1,5 @@
+pub mod Events
+pub mod Lists
+pub mod Span
+pub mod Sound
+pub mod Judged

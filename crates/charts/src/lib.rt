@@ -1,0 +1,16 @@
+// What a message sequence chart is: its events, its faults and the interface that every chart has.
+mod chart;
+mod parts;
+
+pub use chart::Chart;
+pub use parts::ACTION;
+pub use parts::ENVIRONMENT;
+pub use parts::Event;
+pub use parts::Fault;
+pub use parts::INPUT;
+pub use parts::MOST_EVENTS;
+pub use parts::MOST_INSTANCES;
+pub use parts::MOST_NUMBER;
+pub use parts::NO_EVENT;
+pub use parts::OUTPUT;
+pub use parts::Summary;
