@@ -1,0 +1,6 @@
+pub mod Cuts
+pub mod Chosen
+pub mod Places
+pub mod Scans
+pub mod Passed
+pub mod Exact

@@ -1,0 +1,5 @@
+pub mod Cut
+pub mod Choice
+pub mod Rules
+pub mod Checked
+pub mod SoundTable
