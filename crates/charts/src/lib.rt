@@ -1,5 +1,6 @@
 // What a message sequence chart is: its events, its faults and the interface that every chart has.
 mod chart;
+mod kinds;
 mod parts;
 
 pub use chart::Chart;

@@ -135,7 +135,7 @@ module _ (ns : List ℕ) (es : List Event) (k : ℕ) (e : Event) where
 
 -- the checks as a whole
 module _ (ns : List ℕ) (es : List Event) where
-  at-place : (rule : ℕ → Event → Option ℕ) → scan rule ns 0 es ≡ None → (p : ℕ) → p < length es → rule p (getD es p no-event) ≡ None
+  pub at-place : (rule : ℕ → Event → Option ℕ) → scan rule ns 0 es ≡ None → (p : ℕ) → p < length es → rule p (getD es p no-event) ≡ None
   at-place rule s p h = let z : 0 + p ≡ p = omega arith in subst (λ (x : ℕ). rule x (getD es p no-event) ≡ None) z (none-scan rule ns 0 es s p h)
 
   every-place : (rule : ℕ → Event → Option ℕ) → ((p : ℕ) → p < length es → rule p (getD es p no-event) ≡ None) → scan rule ns 0 es ≡ None
