@@ -23,63 +23,72 @@ use Rattle.charts.specs.Span.{above, spanOf, span}
 use Rattle.charts.specs.Judged.{summed, unspoiled}
 use Rattle.checks.specs.Cut.{cut}
 use Rattle.checks.specs.Checked.{checked}
+use Rattle.checks.specs.SoundTable.{SoundTable}
+use Rattle.checks.proofs.Chosen.{some-none}
+use Rattle.checks.proofs.Exact.{sound-checked}
+use Rattle.charts.proofs.Summaries.{summed-ok, summed-err}
 use Rattle.checks.proofs.Cuts.{cut-length, cut-count, cut-event, cut-size, cut-span}
 use Rattle.checks.proofs.Passed.{Passed, passed-from}
-use Rattle.tables.specs.Judging.{spanned}
+use Rattle.tables.specs.TableLists.{tableLists}
 
 module _ (ns : List ℕ) (es : List Event) where
-  pub facts : (f : Option Fault) → f ≡ checked ns es → f ≡ None → Passed ns es
-  facts f e n = passed-from ns es (sym e ∙ n)
-
-  pub sized : (f : Option Fault) (s : ℕ) → f ≡ checked ns es → f ≡ None → s ≡ spanned f es →
-    Ok (record { width = length ns; events = length es; span = s }) ≡ summed f (unspoiled f (cut ns es))
-  sized None s e n g =
-      let p = facts None e n in
+  -- the size of the chart, where no rule is broken
+  pub sized : None ≡ checked ns es → Ok (record { width = length ns; events = length es; span = spanOf es }) ≡ summed (checked ns es) (tableLists ns es)
+  sized e =
+      let even = passed-from ns es (sym e) .even in
       let w = sym (cut-length ns es) in
-      let z = sym (cut-size ns es (p .even)) in
-      let v = g ∙ sym (cut-span ns es (p .even)) in
-      ap Ok (λ t. record { width = w t; events = z t; span = v t })
-  sized (Some x) s e n g = absurd (let z : _≡_ {A = ℕ} 0 1 = cc in omega arith)
+      let z = sym (cut-size ns es even) in
+      let v = sym (cut-span ns es even) in
+      ap Ok (λ t. record { width = w t; events = z t; span = v t }) ∙ ap (λ (f : Option Fault). summed f (unspoiled f (cut ns es))) e
 
-  -- the count on instance i of a table without a fault
-  pub counted : (f : Option Fault) (i : ℕ) → f ≡ checked ns es → f ≡ None → getD ns i 0 ≡ countOf (unspoiled f (cut ns es)) i
-  counted None i e n = let p = facts None e n in let v = p .even in sym (cut-count ns es i (omega arith))
-  counted (Some x) i e n = absurd (let z : _≡_ {A = ℕ} 0 1 = cc in omega arith)
+  -- the fault, where one is
+  pub blamed-so : (f : Fault) → Some f ≡ checked ns es → Err f ≡ summed (checked ns es) (tableLists ns es)
+  blamed-so f e = ap (λ (x : Option Fault). summed x (unspoiled x (cut ns es))) e
 
-  pub uncounted : (f : Option Fault) (i : ℕ) → length ns ≤ i → 0 ≡ countOf (unspoiled f (cut ns es)) i
-  uncounted None i h = sym (ap length (getD-past (cut ns es) i [] (let l = cut-length ns es in omega arith)))
-  uncounted (Some x) i h = refl
+  pub not-sound : (f : Fault) → Some f ≡ checked ns es → SoundTable ns es → ⊥
+  not-sound f e s = some-none f (e ∙ sound-checked ns es s)
 
-  pub spoiled-count : (f : Option Fault) (x : Fault) (i : ℕ) → f ≡ Some x → 0 ≡ countOf (unspoiled f (cut ns es)) i
-  spoiled-count None x i e = absurd (let z : _≡_ {A = ℕ} 0 1 = cc in omega arith)
-  spoiled-count (Some y) x i e = refl
+  -- the table's lists where its summary is answered, and where a fault is
+  pub whole : (s : Summary) → Ok s ≡ summed (checked ns es) (tableLists ns es) → Passed ns es
+  whole s e = passed-from ns es (summed-ok (checked ns es) (tableLists ns es) s e .whole)
 
-  -- an event within the lists: the table has no fault, and the event stands so far into it
-  pub record Inside (f : Option Fault) (i k : ℕ) : Type 0 where
-    pub whole : f ≡ None
+  lists-whole : (s : Summary) → Ok s ≡ summed (checked ns es) (tableLists ns es) → tableLists ns es ≡ cut ns es
+  lists-whole s e = ap (λ (f : Option Fault). unspoiled f (cut ns es)) (summed-ok (checked ns es) (tableLists ns es) s e .whole)
+
+  pub counted : (s : Summary) (i : ℕ) → Ok s ≡ summed (checked ns es) (tableLists ns es) → getD ns i 0 ≡ countOf (tableLists ns es) i
+  counted s i e =
+      let v = whole s e .even in sym (ap (λ (L : List (List Event)). countOf L i) (lists-whole s e) ∙ cut-count ns es i (omega arith))
+
+  pub spoiled-count : (f : Fault) (i : ℕ) → Err f ≡ summed (checked ns es) (tableLists ns es) → 0 ≡ countOf (tableLists ns es) i
+  spoiled-count f i e = sym (ap (λ (x : Option Fault). countOf (unspoiled x (cut ns es)) i) (summed-err (checked ns es) (tableLists ns es) f e))
+
+  -- an event within the lists, and where it stands in the table
+  pub record Inside (i k : ℕ) : Type 0 where
     pub instance : i < length ns
     pub few : length ns ≤ 32
     pub short : length es ≤ 4096
     pub place : sum (take i ns) + k < length es
-    pub is : getD es (sum (take i ns) + k) no-event ≡ eventOf (unspoiled f (cut ns es)) i k
+    pub is : getD es (sum (take i ns) + k) no-event ≡ eventOf (tableLists ns es) i k
 
-  pub inside : (f : Option Fault) (i k : ℕ) → f ≡ checked ns es → k < countOf (unspoiled f (cut ns es)) i → Inside f i k
-  inside None i k e h =
-      let p = facts None e refl in
+  inside-at : (f : Option Fault) (i k : ℕ) → checked ns es ≡ f → k < countOf (unspoiled f (cut ns es)) i → Inside i k
+  inside-at None i k e h =
+      let p = passed-from ns es e in
       let v = p .even in
       let c = cut-count ns es i (omega arith) in
       let within : i < length ns = elim (cases-lt i (length ns)) [ inl l ↦ l | inr l ↦ absurd (let o = getD-past ns i 0 l in omega arith) ] in
       let a = sumBy-take-drop (λ x. x) ns i in
       let b = sumBy-drop-more (λ x. x) ns i 0 within in
       record {
-        whole = refl;
         instance = within;
         few = p .wide;
         short = p .long;
         place = omega arith;
-        is = sym (cut-event ns es i k h);
+        is = sym (ap (λ (f : Option Fault). eventOf (unspoiled f (cut ns es)) i k) e ∙ cut-event ns es i k h);
       }
-  inside (Some x) i k e h = absurd (omega arith)
+  inside-at (Some x) i k e h = absurd (omega arith)
+
+  pub inside : (i k : ℕ) → k < countOf (tableLists ns es) i → Inside i k
+  inside i k h = inside-at (checked ns es) i k refl h
 
 -- one event more in a span
 pub span-more : (es : List Event) (k s n : ℕ) → k < length es → n ≡ max s (above (getD es k no-event)) → max s (spanOf (drop k es)) ≡ max n (spanOf (drop (k + 1) es))

@@ -1,6 +1,6 @@
 ghost use mathlib.Core.Path.{_≡_};
 ghost use Prim.Native.Nat.{_≤_};
-ghost use lib.ListN.{length, take};
+ghost use lib.ListN.{length};
 ghost use Rattle.std.specs.shelf.Lists.{sum};
 ghost use Rattle.checks.specs.Cut.{instanceOf, indexOf};
 
@@ -33,14 +33,13 @@ pub(crate) fn locate(lengths: &[u16], at: usize) -> Place
     }
 }
 
-// The number of events on the instances before i.
-pub(crate) fn start(lengths: &[u16], i: usize) -> usize
-    requires few { ⌜ length (now lengths) ≤ 32 ⌝ }
-    requires within { ⌜ i ≤ length (now lengths) ⌝ }
-    ensures { λ r. ⌜ r ≡ sum (take i (now (lengths .entry))) ⌝ }
+// The sum of the lengths.
+pub(crate) fn total(lengths: &[u16]) -> usize
+    requires { ⌜ length (now lengths) ≤ 32 ⌝ }
+    ensures { λ r. ⌜ r ≡ sum (now (lengths .entry)) ⌝ }
 {
     let mut sum = 0;
-    for n in &lengths[0..i] {
+    for n in lengths {
         sum += usize::from(*n);
     }
     sum

@@ -4,6 +4,7 @@ mod message_places;
 mod passes;
 mod spans;
 mod table;
+mod verdicts;
 
 pub use table::Table;
 pub use table::TableChart;

@@ -9,7 +9,7 @@ ghost use Rattle.checks.specs.Rules.{wellFormed, notRepeated, otherKind, joins,
 ghost use Rattle.checks.specs.Checked.{tableFault, scan, checked};
 ghost use Rattle.tables.specs.Seen.{Seen};
 use crate::layout::locate;
-use crate::layout::start;
+use crate::layout::total;
 use crate::message_places::MessagePlaces;
 use crate::message_places::NOWHERE;
 use charts::ACTION;
@@ -173,7 +173,7 @@ pub(crate) fn check(lengths: &[u16], events: &[Event]) -> Option<Fault>
     if events.len() > MOST_EVENTS {
         return Some(spoiled(EVENTS));
     }
-    if start(lengths, lengths.len()) != events.len() {
+    if total(lengths) != events.len() {
         return Some(spoiled(SUM));
     }
     if let Some(fault) = first_malformed(lengths, events) {

@@ -1,18 +1,17 @@
 ghost use mathlib.Core.Path.{_≡_};
-ghost use mathlib.Core.List.{List};
+ghost use Prim.Native.Nat.{_<_};
 ghost use denote.Ref.{now};
-ghost use Rattle.std.specs.declared.option.Option.{Option};
-ghost use Rattle.std.specs.declared.option.Option.the-variants.{None};
-ghost use Rattle.charts.specs.declared.parts.Event.{Event};
-ghost use Rattle.charts.specs.declared.parts.Fault.{Fault};
-ghost use Rattle.charts.specs.Judged.{unspoiled};
-ghost use Rattle.checks.specs.Cut.{cut};
+ghost use lib.ListN.{length, getD};
+ghost use Rattle.std.specs.Options.{Cases as BySome};
+ghost use Rattle.std.specs.Results.{Cases};
+ghost use Rattle.charts.specs.Events.{no-event};
+ghost use Rattle.charts.specs.Judged.{summed};
+ghost use Rattle.charts.specs.Lists.{eventOf};
 ghost use Rattle.checks.specs.Checked.{checked};
 ghost use Rattle.checks.specs.SoundTable.{SoundTable};
-ghost use Rattle.tables.specs.Judging.{spanned, table-judged};
-use crate::layout::start;
-use crate::passes::check;
-use crate::spans::span_of;
+ghost use Rattle.tables.specs.TableLists.{tableLists, table-judged};
+use crate::layout::total;
+use crate::verdicts::judge;
 use charts::Chart;
 use charts::Event;
 use charts::Fault;
@@ -24,63 +23,59 @@ use charts::Summary;
 pub struct Table<'a> {
     lengths: &'a [u16],
     events: &'a [Event],
-    fault: Option<Fault>,
-    span: usize,
-    ghost found: { fault ≡ checked (now lengths) (now events) },
-    ghost spans: { span ≡ spanned fault (now events) },
+    verdict: Result<Summary, Fault>,
+    ghost judged: { verdict ≡ summed (checked (now lengths) (now events)) (tableLists (now lengths) (now events)) },
 }
 
 impl<'a> Table<'a> {
-    // The chart of any two slices; a table that breaks a rule is spoiled by the first one.
+    // The chart of any two slices; a table that breaks a rule is spoiled by the first one that it breaks.
     pub fn new(lengths: &'a [u16], events: &'a [Event]) -> Table<'a>
         ensures kept { λ r. ⌜ (now (r .lengths) ≡ now (lengths .entry)) × (now (r .events) ≡ now (events .entry)) ⌝ }
-        ensures found { λ r. ⌜ r .fault ≡ checked (now (lengths .entry)) (now (events .entry)) ⌝ }
-        ensures sound { λ r. ⌜ (r .fault ≡ None → SoundTable (now (lengths .entry)) (now (events .entry))) × (SoundTable (now (lengths .entry)) (now (events .entry)) → r .fault ≡ None) ⌝ }
+        ensures judged { λ r. ⌜ r .verdict ≡ summed (checked (now (lengths .entry)) (now (events .entry))) (tableLists (now (lengths .entry)) (now (events .entry))) ⌝ }
+        ensures sound { λ r. ⌜ Cases (r .verdict) (λ _. SoundTable (now (lengths .entry)) (now (events .entry))) (λ _. SoundTable (now (lengths .entry)) (now (events .entry)) → ⊥) ⌝ }
     {
-        let fault = check(lengths, events);
-        let span = match fault {
-            Some(_) => 0,
-            None => span_of(events),
-        };
+        let verdict = judge(lengths, events);
         Table {
             lengths,
             events,
-            fault,
-            span,
+            verdict,
         }
+    }
+
+    // Where event k of instance i stands among the events.
+    fn place(&self, i: usize, k: usize) -> Option<usize>
+        ensures { λ r. ⌜ BySome r (eventOf (tableLists (now (now (self .entry) .lengths)) (now (now (self .entry) .events))) i k ≡ no-event) (λ at. (at < length (now (now (self .entry) .events))) × (getD (now (now (self .entry) .events)) at no-event ≡ eventOf (tableLists (now (now (self .entry) .lengths)) (now (now (self .entry) .events))) i k)) ⌝ }
+    {
+        if k >= self.count(i) {
+            return None;
+        }
+        Some(total(&self.lengths[0..i]) + k)
     }
 }
 
 pub impl<'a> Chart for Table<'a> as TableChart {
-    ghost lists = { λ t. unspoiled (t .fault) (cut (now (t .lengths)) (now (t .events))) };
+    ghost lists = { λ t. tableLists (now (t .lengths)) (now (t .events)) };
 
-    ghost trouble = { λ t. t .fault };
+    ghost trouble = { λ t. checked (now (t .lengths)) (now (t .events)) };
 
-    ghost sound = { λ t. table-judged (now (t .lengths)) (now (t .events)) (t .fault) (t .found) };
+    ghost sound = { λ t. table-judged (now (t .lengths)) (now (t .events)) };
 
     fn summary(&self) -> Result<Summary, Fault> {
-        match self.fault {
-            Some(fault) => Err(fault),
-            None => Ok(Summary {
-                width: self.lengths.len(),
-                events: self.events.len(),
-                span: self.span,
-            }),
-        }
+        self.verdict
     }
 
     fn count(&self, i: usize) -> usize {
-        match self.fault {
-            None if i < self.lengths.len() => usize::from(self.lengths[i]),
-            None => 0,
-            Some(_) => 0,
+        match self.verdict {
+            Ok(_) if i < self.lengths.len() => usize::from(self.lengths[i]),
+            Ok(_) => 0,
+            Err(_) => 0,
         }
     }
 
     fn event(&self, i: usize, k: usize) -> Event {
-        if k >= self.count(i) {
-            return NO_EVENT;
+        match self.place(i, k) {
+            Some(at) => self.events[at],
+            None => NO_EVENT,
         }
-        self.events[start(self.lengths, i) + k]
     }
 }

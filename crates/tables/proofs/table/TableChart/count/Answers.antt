@@ -1,13 +1,15 @@
-use mathlib.Core.Path.{_∙_}
-use Rattle.tables.proofs.Answering.{counted, uncounted}
+use mathlib.Core.Path.{_≡_, sym, _∙_}
+use native.Mathlib.Omega.{arith}
+use Rattle.std.proofs.shelf.Lists.{getD-past}
+use Rattle.tables.proofs.Answering.{counted}
 use Rattle.tables.proofs.table.TableChart.count.Needs as need
 
-pub returns-in-None : need.returns-in-None
-returns-in-None c =
+pub returns-in-Ok : need.returns-in-Ok
+returns-in-Ok c =
     let t = c .args .self .now in
-    c .from .ensures ∙ counted (t .lengths .now) (t .events .now) (t .fault) (c .args .i) (t .found) (c .in-None .is)
+    c .from .ensures ∙ counted (t .lengths .now) (t .events .now) (c .in-Ok .field-0) (c .args .i) (sym (c .in-Ok .is) ∙ t .judged)
 
-pub returns-in-None-2 : need.returns-in-None-2
-returns-in-None-2 c =
+pub returns-in-Ok-2 : need.returns-in-Ok-2
+returns-in-Ok-2 c =
     let t = c .args .self .now in
-    uncounted (t .lengths .now) (t .events .now) (t .fault) (c .args .i) (c .if-i-self .left)
+    sym (getD-past (t .lengths .now) (c .args .i) 0 (c .if-i-self .left)) ∙ counted (t .lengths .now) (t .events .now) (c .in-Ok-2 .field-0) (c .args .i) (sym (c .in-Ok-2 .is) ∙ t .judged)
