@@ -10,7 +10,7 @@ use Rattle.std.proofs.shelf.Tests.{cases-lt, cases-bool, cond-true, cond-false}
 use Rattle.charts.specs.declared.parts.Event.{Event}
 use Rattle.charts.specs.Events.{Message, isMessage, no-event}
 use Rattle.charts.specs.Lists.{At}
-use Rattle.charts.specs.Span.{above, spanOf, span, Spans}
+use Rattle.charts.specs.Span.{above, spanOf, span}
 use Rattle.charts.proofs.Messages.{message-yes, message-from}
 
 pub above-message : (e : Event) → Message e → above e ≡ suc (e .number)
@@ -29,9 +29,10 @@ Reached es n = (n ≡ 0) ⊎ ((k : ℕ) × (k < length es) × Message (getD es k
 head-reached : (e : Event) (es : List Event) (t : Bool) → isMessage e ≡ t → Reached es (spanOf es) → Reached (e ∷ es) (max (cond t (suc (e .number)) 0) (spanOf es))
 head-reached e es true y (inl z) = inr (zero, (omega arith), message-from e y, (omega arith))
 head-reached e es true y (inr r) =
-    elim (cases-lt (suc (e .number)) (spanOf es))
-    [ inl l ↦ inr (suc (r .0), (let a = r .1 in omega arith), r .2, (let b = r .3 in omega arith))
-    | inr l ↦ inr (zero, (omega arith), message-from e y, (omega arith)) ]
+    elim (cases-lt (suc (e .number)) (spanOf es)) [
+      | inl l ↦ inr (suc (r .0), (let a = r .1 in omega arith), r .2, (let b = r .3 in omega arith))
+      | inr l ↦ inr (zero, (omega arith), message-from e y, (omega arith))
+    ]
 head-reached e es false y (inl z) = inl (omega arith)
 head-reached e es false y (inr r) = inr (suc (r .0), (let a = r .1 in omega arith), r .2, (let b = r .3 in omega arith))
 
@@ -62,9 +63,15 @@ first es L n (inr r) = inr (zero, r .0, getD es (r .0) no-event, record { within
 pub span-reached : (L : List (List Event)) → Highest L (span L)
 span-reached [] = inl refl
 span-reached (es ∷ L) =
-    elim (cases-lt (spanOf es) (span L))
-    [ inl l ↦ let e : max (spanOf es) (span L) ≡ span L = omega arith in subst (Highest (es ∷ L)) (sym e) (later es L (span L) (span-reached L))
-    | inr l ↦ let e : max (spanOf es) (span L) ≡ spanOf es = omega arith in subst (Highest (es ∷ L)) (sym e) (first es L (spanOf es) (column-reached es)) ]
+    elim (cases-lt (spanOf es) (span L)) [
+      | inl l ↦ let e : max (spanOf es) (span L) ≡ span L = omega arith in subst (Highest (es ∷ L)) (sym e) (later es L (span L) (span-reached L))
+      | inr l ↦ let e : max (spanOf es) (span L) ≡ spanOf es = omega arith in subst (Highest (es ∷ L)) (sym e) (first es L (spanOf es) (column-reached es))
+    ]
+
+-- every message number is below n, and n is 0 or one more than some message's number
+pub record Spans (L : List (List Event)) (n : ℕ) : Type 0 where
+  pub below : (i k : ℕ) (e : Event) → At L i k e → Message e → e .number < n
+  pub reached : (n ≡ 0) ⊎ ((i : ℕ) × (k : ℕ) × (e : Event) × At L i k e × Message e × (suc (e .number) ≡ n))
 
 pub spans : (L : List (List Event)) → Spans L (span L)
 spans L = record { below = span-below L; reached = span-reached L }

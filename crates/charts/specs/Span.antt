@@ -1,12 +1,9 @@
 -- The span of a chart: one more than the greatest message number, 0 without messages.
-use Prim.Native.Nat.{ℕ, suc, max, _<_}
+use Prim.Native.Nat.{ℕ, suc, max}
 use mathlib.Core.Bool.{cond}
 use mathlib.Core.List.{List, [], _∷_}
-use mathlib.Core.Path.{_≡_}
-use mathlib.Core.Logic.{_⊎_}
 use Rattle.charts.specs.declared.parts.Event.{Event}
-use Rattle.charts.specs.Events.{isMessage, Message}
-use Rattle.charts.specs.Lists.{At}
+use Rattle.charts.specs.Events.{isMessage}
 
 -- one more than an event's message number, 0 for an action
 abbrev pub above : Event → ℕ
@@ -21,8 +18,3 @@ spanOf (e ∷ es) = max (above e) (spanOf es)
 abbrev pub span : List (List Event) → ℕ
 span [] = 0
 span (es ∷ L) = max (spanOf es) (span L)
-
--- every message number is below n, and n is 0 or one more than some message's number
-pub record Spans (L : List (List Event)) (n : ℕ) : Type 0 where
-  pub below : (i k : ℕ) (e : Event) → At L i k e → Message e → e .number < n
-  pub reached : (n ≡ 0) ⊎ ((i : ℕ) × (k : ℕ) × (e : Event) × At L i k e × Message e × (suc (e .number) ≡ n))

@@ -5,7 +5,7 @@ ghost use Rattle.std.specs.declared.option.Option.{Option};
 ghost use Rattle.charts.specs.declared.parts.Event.{Event};
 ghost use Rattle.charts.specs.declared.parts.Fault.{Fault};
 ghost use Rattle.charts.specs.Lists.{countOf, eventOf};
-ghost use Rattle.charts.specs.Span.{span, Spans};
+ghost use Rattle.charts.specs.Span.{span};
 ghost use Rattle.charts.specs.Judged.{Judged, summed};
 use crate::parts::Event;
 use crate::parts::Fault;
@@ -44,8 +44,7 @@ pub trait Chart {
 
     // One more than the greatest message number, 0 without messages.
     fn span(&self) -> usize
-        ensures value { λ r. ⌜ r ≡ span (lists (now (self .entry))) ⌝ }
-        ensures greatest { λ r. ⌜ Spans (lists (now (self .entry))) r ⌝ }
+        ensures { λ r. ⌜ r ≡ span (lists (now (self .entry))) ⌝ }
     {
         match self.summary() {
             Ok(s) => s.span,

@@ -1,6 +1,8 @@
 // The kinds of an event.
 pub const OUTPUT: u8 = 1;
+
 pub const INPUT: u8 = 2;
+
 pub const ACTION: u8 = 3;
 
 // The peer that stands for the environment.
@@ -8,7 +10,9 @@ pub const ENVIRONMENT: u8 = 255;
 
 // The limits of a sound chart: its instances, its events, and the number of a message or an action.
 pub const MOST_INSTANCES: usize = 32;
+
 pub const MOST_EVENTS: usize = 4096;
+
 pub const MOST_NUMBER: u16 = 4095;
 
 // One event of an instance: an output to the peer, an input from it, or an action.

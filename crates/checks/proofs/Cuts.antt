@@ -74,7 +74,7 @@ flat-at (n ∷ ns) es p h s =
     go (ltb p n) refl (λ q. flat-at ns (drop n es) (p - n) (let l = length-drop n es in omega arith) (let c = sum-cons n ns in omega arith))
   where
     go : (t : Bool) → ltb p n ≡ t → (n ≤ p → At (cut ns (drop n es)) (instanceOf ns (p - n)) (indexOf ns (p - n)) (getD (drop n es) (p - n) no-event)) →
-      At (cut (n ∷ ns) es) (cond t 0 (suc (instanceOf ns (p - n)))) (cond t p (indexOf ns (p - n))) (getD es p no-event)
+        At (cut (n ∷ ns) es) (cond t 0 (suc (instanceOf ns (p - n)))) (cond t p (indexOf ns (p - n))) (getD es p no-event)
     go true t r = let q = ltb-true p n t in record { within = (let l = length-take n es in omega arith); is = getD-take n es p no-event q }
     go false t r =
         let q = ltb-false p n t in
@@ -83,9 +83,9 @@ flat-at (n ∷ ns) es p h s =
         record { within = a .within; is = a .is ∙ getD-drop n es (p - n) no-event ∙ ap (λ (x : ℕ). getD es x no-event) b }
 
 both-places : (n : ℕ) (ns : List ℕ) (p q : ℕ) → p < sum (n ∷ ns) → q < sum (n ∷ ns) →
-  (n ≤ p → n ≤ q → instanceOf ns (p - n) ≡ instanceOf ns (q - n) → indexOf ns (p - n) ≡ indexOf ns (q - n) → p - n ≡ q - n) →
-  (s t : Bool) → ltb p n ≡ s → ltb q n ≡ t →
-  cond s 0 (suc (instanceOf ns (p - n))) ≡ cond t 0 (suc (instanceOf ns (q - n))) → cond s p (indexOf ns (p - n)) ≡ cond t q (indexOf ns (q - n)) → p ≡ q
+    (n ≤ p → n ≤ q → instanceOf ns (p - n) ≡ instanceOf ns (q - n) → indexOf ns (p - n) ≡ indexOf ns (q - n) → p - n ≡ q - n) →
+    (s t : Bool) → ltb p n ≡ s → ltb q n ≡ t →
+    cond s 0 (suc (instanceOf ns (p - n))) ≡ cond t 0 (suc (instanceOf ns (q - n))) → cond s p (indexOf ns (p - n)) ≡ cond t q (indexOf ns (q - n)) → p ≡ q
 both-places n ns p q hp hq r true true s t e f = f
 both-places n ns p q hp hq r true false s t e f = absurd (omega arith)
 both-places n ns p q hp hq r false true s t e f = absurd (omega arith)

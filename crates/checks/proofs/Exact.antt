@@ -33,7 +33,7 @@ module _ (ns : List ℕ) (es : List Event) where
   module _ (h : Passed ns es) where
     -- two events of one message and kind are one
     one-place : (p q : ℕ) → p < length es → q < length es → Message (getD es p no-event) → getD es q no-event .kind ≡ getD es p no-event .kind →
-      getD es q no-event .number ≡ getD es p no-event .number → p ≡ q
+        getD es q no-event .number ≡ getD es p no-event .number → p ≡ q
     one-place p q lp lq m k n =
         let x = getD es p no-event in
         let mq : Message (getD es q no-event) = elim m [ inl o ↦ inl (k ∙ o) | inr o ↦ inr (k ∙ o) ] in
@@ -58,7 +58,7 @@ module _ (ns : List ℕ) (es : List Event) where
 
     -- the other event of a message with an instance
     other-event : (i k : ℕ) (e : Event) → At (cut ns es) i k e → Message e → e .peer < length ns →
-      (l : ℕ) × At (cut ns es) (e .peer) l (event (otherKind (e .kind)) i (e .number))
+        (l : ℕ) × At (cut ns es) (e .peer) l (event (otherKind (e .kind)) i (e .number))
     other-event i k e a m lt =
         let x = at-flat ns es i k e a in
         let mx : Message (getD es (x .at) no-event) = subst Message (sym (x .is)) m in
@@ -71,7 +71,7 @@ module _ (ns : List ℕ) (es : List Event) where
         let c = first-kind (otherKind (e .kind)) (e .number) es (j .within) in
         let at : At (cut ns es) (instanceOf ns q) (indexOf ns q) (getD es q no-event) = flat-at ns es q (j .within) (omega arith) in
         let is : getD es q no-event ≡ event (otherKind (e .kind)) i (e .number) =
-            λ t. record { kind = c .0 t; peer = (j .peer ∙ x .instance) t; number = c .1 t } in
+        λ t. record { kind = c .0 t; peer = (j .peer ∙ x .instance) t; number = c .1 t } in
         let moved : At (cut ns es) (e .peer) (indexOf ns q) (getD es q no-event) = subst (λ (z : ℕ). At (cut ns es) z (indexOf ns q) (getD es q no-event)) (j .instance) at in
         (indexOf ns q, subst (At (cut ns es) (e .peer) (indexOf ns q)) is moved)
 
@@ -141,45 +141,48 @@ module _ (ns : List ℕ) (es : List Event) where
         let t1 = t .1 in
         let w = cut-length ns es in
         let known : Message e → (e .peer ≡ environment) ⊎ (Message e × (e .peer < length ns)) =
-            λ m. elim (s .sound .message-peers i k e a m) [ inl y ↦ inr (m, omega arith) | inr y ↦ inl y ] in
+        λ m. elim (s .sound .message-peers i k e a m) [ inl y ↦ inr (m, omega arith) | inr y ↦ inl y ] in
         record {
           low = t .0;
           high = t .1;
           peer =
-            elim (cases-eq (e .kind) output)
-            [ inl y ↦ known (inl y)
-            | inr n ↦ elim (cases-eq (e .kind) input) [ inl y ↦ known (inr y) | inr o ↦ inl (s .sound .action-peers i k e a (omega arith)) ] ];
+              elim (cases-eq (e .kind) output) [
+                | inl y ↦ known (inl y)
+                | inr n ↦ elim (cases-eq (e .kind) input) [ inl y ↦ known (inr y) | inr o ↦ inl (s .sound .action-peers i k e a (omega arith)) ]
+              ];
           number = s .sound .numbers i k e a;
         }
 
     -- events of one kind and number are one
     kind-one : (p q : ℕ) → p < length es → q < length es → Message (getD es p no-event) → getD es q no-event .kind ≡ getD es p no-event .kind →
-      getD es q no-event .number ≡ getD es p no-event .number → p ≡ q
+        getD es q no-event .number ≡ getD es p no-event .number → p ≡ q
     kind-one p q lp lq m k n =
         let x = getD es p no-event in
         let y = getD es q no-event in
         one-of p q lp lq
-        (elim m
-        [ inl o ↦
-            s .sound .one-output (x .number) (instanceOf ns p) (indexOf ns p) (x .peer) (instanceOf ns q) (indexOf ns q) (y .peer)
-            (subst (λ (z : ℕ). At (cut ns es) (instanceOf ns p) (indexOf ns p) (event z (x .peer) (x .number))) o (at-of p lp))
-            (subst (λ (z : Event). At (cut ns es) (instanceOf ns q) (indexOf ns q) z) (λ t. record { kind = (k ∙ o) t; peer = y .peer; number = n t }) (at-of q lq))
-        | inr o ↦
-            s .sound .one-input (x .number) (instanceOf ns p) (indexOf ns p) (x .peer) (instanceOf ns q) (indexOf ns q) (y .peer)
-            (subst (λ (z : ℕ). At (cut ns es) (instanceOf ns p) (indexOf ns p) (event z (x .peer) (x .number))) o (at-of p lp))
-            (subst (λ (z : Event). At (cut ns es) (instanceOf ns q) (indexOf ns q) z) (λ t. record { kind = (k ∙ o) t; peer = y .peer; number = n t }) (at-of q lq)) ])
+        (elim m [
+          | inl o ↦
+              s .sound .one-output (x .number) (instanceOf ns p) (indexOf ns p) (x .peer) (instanceOf ns q) (indexOf ns q) (y .peer)
+              (subst (λ (z : ℕ). At (cut ns es) (instanceOf ns p) (indexOf ns p) (event z (x .peer) (x .number))) o (at-of p lp))
+              (subst (λ (z : Event). At (cut ns es) (instanceOf ns q) (indexOf ns q) z) (λ t. record { kind = (k ∙ o) t; peer = y .peer; number = n t }) (at-of q lq))
+          | inr o ↦
+              s .sound .one-input (x .number) (instanceOf ns p) (indexOf ns p) (x .peer) (instanceOf ns q) (indexOf ns q) (y .peer)
+              (subst (λ (z : ℕ). At (cut ns es) (instanceOf ns p) (indexOf ns p) (event z (x .peer) (x .number))) o (at-of p lp))
+              (subst (λ (z : Event). At (cut ns es) (instanceOf ns q) (indexOf ns q) z) (λ t. record { kind = (k ∙ o) t; peer = y .peer; number = n t }) (at-of q lq))
+        ])
 
     sound-single : (p : ℕ) → p < length es → Message (getD es p no-event) → p ≤ firstPlace (getD es p no-event .kind) (getD es p no-event .number) es
     sound-single p l m =
         let x = getD es p no-event in
         let q = firstPlace (x .kind) (x .number) es in
-        elim (cases-lt q p)
-        [ inr h ↦ h
-        | inl h ↦
-            let lq : q < length es = omega arith in
-            let c = first-kind (x .kind) (x .number) es lq in
-            let same = kind-one p q l lq m (c .0) (c .1) in
-            omega arith ]
+        elim (cases-lt q p) [
+          | inr h ↦ h
+          | inl h ↦
+              let lq : q < length es = omega arith in
+              let c = first-kind (x .kind) (x .number) es lq in
+              let same = kind-one p q l lq m (c .0) (c .1) in
+              omega arith
+        ]
 
     other-message : (e : Event) → Message e → (f : Event) → f .kind ≡ otherKind (e .kind) → Message f
     other-message e (inl o) f k = inr (k ∙ ap otherKind o)
@@ -191,38 +194,40 @@ module _ (ns : List ℕ) (es : List Event) where
 
     -- the match that the rules give
     match-of : (p : ℕ) → p < length es → Message (getD es p no-event) → getD es p no-event .peer < length (cut ns es) →
-      (l : ℕ) × At (cut ns es) (getD es p no-event .peer) l (event (otherKind (getD es p no-event .kind)) (instanceOf ns p) (getD es p no-event .number))
+        (l : ℕ) × At (cut ns es) (getD es p no-event .peer) l (event (otherKind (getD es p no-event .kind)) (instanceOf ns p) (getD es p no-event .number))
     match-of p lp m lt =
         let x = getD es p no-event in
-        elim m
-        [ inl o ↦
-            let r = s .sound .outputs-matched (x .number) (instanceOf ns p) (indexOf ns p) (x .peer)
-                (subst (λ (z : ℕ). At (cut ns es) (instanceOf ns p) (indexOf ns p) (event z (x .peer) (x .number))) o (at-of p lp)) lt in
-            (r .0, subst (λ (z : ℕ). At (cut ns es) (x .peer) (r .0) (event z (instanceOf ns p) (x .number))) (sym (ap otherKind o)) (r .1))
-        | inr o ↦
-            let r = s .sound .inputs-matched (x .number) (instanceOf ns p) (indexOf ns p) (x .peer)
-                (subst (λ (z : ℕ). At (cut ns es) (instanceOf ns p) (indexOf ns p) (event z (x .peer) (x .number))) o (at-of p lp)) lt in
-            (r .0, subst (λ (z : ℕ). At (cut ns es) (x .peer) (r .0) (event z (instanceOf ns p) (x .number))) (sym (ap otherKind o)) (r .1)) ]
+        elim m [
+          | inl o ↦
+              let r = s .sound .outputs-matched (x .number) (instanceOf ns p) (indexOf ns p) (x .peer)
+              (subst (λ (z : ℕ). At (cut ns es) (instanceOf ns p) (indexOf ns p) (event z (x .peer) (x .number))) o (at-of p lp)) lt in
+              (r .0, subst (λ (z : ℕ). At (cut ns es) (x .peer) (r .0) (event z (instanceOf ns p) (x .number))) (sym (ap otherKind o)) (r .1))
+          | inr o ↦
+              let r = s .sound .inputs-matched (x .number) (instanceOf ns p) (indexOf ns p) (x .peer)
+              (subst (λ (z : ℕ). At (cut ns es) (instanceOf ns p) (indexOf ns p) (event z (x .peer) (x .number))) o (at-of p lp)) lt in
+              (r .0, subst (λ (z : ℕ). At (cut ns es) (x .peer) (r .0) (event z (instanceOf ns p) (x .number))) (sym (ap otherKind o)) (r .1))
+        ]
 
     sound-alone : (p : ℕ) → p < length es → Message (getD es p no-event) → getD es p no-event .peer ≡ environment → length es ≤ partner es (getD es p no-event)
     sound-alone p l m env =
         let x = getD es p no-event in
         let q = partner es x in
-        elim (cases-lt q (length es))
-        [ inr h ↦ h
-        | inl h ↦
-            let c = first-kind (otherKind (x .kind)) (x .number) es h in
-            let f = getD es q no-event in
-            let same = one-of p q l h
-                (s .sound .environment-alone (instanceOf ns p) (indexOf ns p) (instanceOf ns q) (indexOf ns q) x f (at-of p l) (at-of q h) m (other-message x m f (c .0)) env (sym (c .1))) in
-            absurd (other-differs x m (ap (λ (z : ℕ). getD es z no-event .kind) same ∙ c .0)) ]
+        elim (cases-lt q (length es)) [
+          | inr h ↦ h
+          | inl h ↦
+              let c = first-kind (otherKind (x .kind)) (x .number) es h in
+              let f = getD es q no-event in
+              let same = one-of p q l h
+              (s .sound .environment-alone (instanceOf ns p) (indexOf ns p) (instanceOf ns q) (indexOf ns q) x f (at-of p l) (at-of q h) m (other-message x m f (c .0)) env (sym (c .1))) in
+              absurd (other-differs x m (ap (λ (z : ℕ). getD es z no-event .kind) same ∙ c .0))
+        ]
 
     sound-joined : (p : ℕ) → p < length es → Message (getD es p no-event) → (getD es p no-event .peer ≡ environment → ⊥) →
-      Joined ns es (partner es (getD es p no-event)) (getD es p no-event .peer) (instanceOf ns p)
+        Joined ns es (partner es (getD es p no-event)) (getD es p no-event .peer) (instanceOf ns p)
     sound-joined p l m ne =
         let x = getD es p no-event in
         let lt : x .peer < length (cut ns es) =
-            elim (s .sound .message-peers (instanceOf ns p) (indexOf ns p) x (at-of p l) m) [ inl y ↦ y | inr y ↦ absurd (ne y) ] in
+        elim (s .sound .message-peers (instanceOf ns p) (indexOf ns p) x (at-of p l) m) [ inl y ↦ y | inr y ↦ absurd (ne y) ] in
         let r = match-of p l m lt in
         let y = at-flat ns es (x .peer) (r .0) (event (otherKind (x .kind)) (instanceOf ns p) (x .number)) (r .1) in
         let ky = ap (λ (z : Event). z .kind) (y .is) in

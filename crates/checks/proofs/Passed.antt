@@ -60,9 +60,10 @@ module _ (width k : ℕ) (e : Event) where
         low = leb-true output (e .kind) (k .0);
         high = leb-true (e .kind) action (k .1);
         peer =
-          elim (or-cases (eqb (e .peer) environment) (isMessage e && ltb (e .peer) width) (unless-none (knownPeer width e) 15 (b .0)))
-          [ inl t ↦ inl (eqb-true (e .peer) environment t)
-          | inr t ↦ let m = and-parts (isMessage e) (ltb (e .peer) width) t in inr (message-from e (m .0), ltb-true (e .peer) width (m .1)) ];
+            elim (or-cases (eqb (e .peer) environment) (isMessage e && ltb (e .peer) width) (unless-none (knownPeer width e) 15 (b .0))) [
+              | inl t ↦ inl (eqb-true (e .peer) environment t)
+              | inr t ↦ let m = and-parts (isMessage e) (ltb (e .peer) width) t in inr (message-from e (m .0), ltb-true (e .peer) width (m .1))
+            ];
         number = leb-true (e .number) 4095 (unless-none (leb (e .number) 4095) 16 (c .0));
       }
 
@@ -115,7 +116,7 @@ module _ (ns : List ℕ) (es : List Event) where
 
 module _ (ns : List ℕ) (es : List Event) (k : ℕ) (e : Event) where
   pair-split : (t : Bool) → eqb (e .peer) environment ≡ t →
-    cond t (leb (length es) (partner es e)) (joins ns es (partner es e) (e .peer) (instanceOf ns k)) ≡ true → Paired ns es k e
+      cond t (leb (length es) (partner es e)) (joins ns es (partner es e) (e .peer) (instanceOf ns k)) ≡ true → Paired ns es k e
   pair-split true t h =
       record { alone = λ _. leb-true (length es) (partner es e) h; joined = λ n. absurd (n (eqb-true (e .peer) environment t)) }
   pair-split false t h =
@@ -126,9 +127,10 @@ module _ (ns : List ℕ) (es : List Event) (k : ℕ) (e : Event) where
 
   match-yes : Paired ns es k e → hasMatch ns es k e ≡ true
   match-yes p =
-      elim (cases-eq (e .peer) environment)
-      [ inl y ↦ cond-true (eqb (e .peer) environment) _ _ (eq-eqb (e .peer) environment y) ∙ le-leb (length es) (partner es e) (p .alone y)
-      | inr n ↦ cond-false (eqb (e .peer) environment) _ _ (ne-eqb (e .peer) environment n) ∙ joins-yes ns es (partner es e) (e .peer) (instanceOf ns k) (p .joined n) ]
+      elim (cases-eq (e .peer) environment) [
+        | inl y ↦ cond-true (eqb (e .peer) environment) _ _ (eq-eqb (e .peer) environment y) ∙ le-leb (length es) (partner es e) (p .alone y)
+        | inr n ↦ cond-false (eqb (e .peer) environment) _ _ (ne-eqb (e .peer) environment n) ∙ joins-yes ns es (partner es e) (e .peer) (instanceOf ns k) (p .joined n)
+      ]
 
   pub paired-none : (Message e → Paired ns es k e) → matched ns es k e ≡ None
   paired-none h = none-unless _ 18 (message-all e (hasMatch ns es k e) (λ m. match-yes (h m)))

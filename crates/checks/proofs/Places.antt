@@ -33,8 +33,8 @@ module _ (a m : ℕ) where
   first-is (e ∷ es) h = go (isOf a m e) refl h (first-is es)
     where
       go : (t : Bool) → isOf a m e ≡ t → cond t 0 (suc (firstPlace a m es)) < suc (length es) →
-        (firstPlace a m es < length es → isOf a m (getD es (firstPlace a m es) no-event) ≡ true) →
-        isOf a m (getD (e ∷ es) (cond t 0 (suc (firstPlace a m es))) no-event) ≡ true
+          (firstPlace a m es < length es → isOf a m (getD es (firstPlace a m es) no-event) ≡ true) →
+          isOf a m (getD (e ∷ es) (cond t 0 (suc (firstPlace a m es))) no-event) ≡ true
       go true t h r = t
       go false t h r = r (omega arith)
 

@@ -31,10 +31,10 @@ scan rule ns k (e ∷ es) = orElse (blamed ns k (rule k e)) (scan rule ns (suc k
 abbrev pub checked : List ℕ → List Event → Option Fault
 checked ns es =
     earliest
-    ( unless (leb (length ns) 32) (tableFault 11 0 0)
+    (unless (leb (length ns) 32) (tableFault 11 0 0)
     ∷ unless (leb (length es) 4096) (tableFault 12 0 0)
     ∷ unless (eqb (sum ns) (length es)) (tableFault 13 0 0)
     ∷ scan (wellFormed (length ns)) ns 0 es
     ∷ scan (notRepeated es) ns 0 es
     ∷ scan (matched ns es) ns 0 es
-    ∷ [] )
+    ∷ [])

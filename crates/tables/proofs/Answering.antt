@@ -26,7 +26,7 @@ use Rattle.checks.specs.Checked.{checked}
 use Rattle.checks.specs.SoundTable.{SoundTable}
 use Rattle.checks.proofs.Chosen.{some-none}
 use Rattle.checks.proofs.Exact.{sound-checked}
-use Rattle.charts.proofs.Summaries.{summed-ok, summed-err}
+use Rattle.charts.proofs.Summaries.{summed-ok}
 use Rattle.checks.proofs.Cuts.{cut-length, cut-count, cut-event, cut-size, cut-span}
 use Rattle.checks.proofs.Passed.{Passed, passed-from}
 use Rattle.tables.specs.TableLists.{tableLists}
@@ -58,9 +58,6 @@ module _ (ns : List ℕ) (es : List Event) where
   pub counted : (s : Summary) (i : ℕ) → Ok s ≡ summed (checked ns es) (tableLists ns es) → getD ns i 0 ≡ countOf (tableLists ns es) i
   counted s i e =
       let v = whole s e .even in sym (ap (λ (L : List (List Event)). countOf L i) (lists-whole s e) ∙ cut-count ns es i (omega arith))
-
-  pub spoiled-count : (f : Fault) (i : ℕ) → Err f ≡ summed (checked ns es) (tableLists ns es) → 0 ≡ countOf (tableLists ns es) i
-  spoiled-count f i e = sym (ap (λ (x : Option Fault). countOf (unspoiled x (cut ns es)) i) (summed-err (checked ns es) (tableLists ns es) f e))
 
   -- an event within the lists, and where it stands in the table
   pub record Inside (i k : ℕ) : Type 0 where

@@ -17,7 +17,7 @@ use Rattle.checks.specs.Rules.{firstPlace, notRepeated, wellFormed}
 use Rattle.checks.specs.Checked.{scan}
 use Rattle.checks.proofs.Chosen.{some-unless}
 use Rattle.checks.proofs.Exact.{first-kind, first-before}
-use Rattle.checks.proofs.Passed.{ at-place, formed-from}
+use Rattle.checks.proofs.Passed.{at-place, formed-from}
 use Rattle.tables.specs.Seen.{seen, Row, Seen}
 
 module _ (es : List Event) (k a m : ℕ) where
@@ -39,14 +39,16 @@ module _ (es : List Event) (k a m : ℕ) (h : k < length es) where
   -- the event at k is of another kind or number
   seen-past : (getD es k no-event .kind ≡ a → getD es k no-event .number ≡ m → ⊥) → seen es k a m ≡ seen es (k + 1) a m
   seen-past other =
-      elim (cases-lt (firstPlace a m es) k)
-      [ inl l ↦ seen-yes es k a m l ∙ sym (seen-yes es (k + 1) a m (omega arith))
-      | inr l ↦
-          elim (cases-eq (firstPlace a m es) k)
-          [ inl e ↦
-              let f = first-kind a m es (omega arith) in
-              absurd (other (ap (λ (x : ℕ). getD es x no-event .kind) (sym e) ∙ f .0) (ap (λ (x : ℕ). getD es x no-event .number) (sym e) ∙ f .1))
-          | inr n ↦ seen-no es k a m l ∙ sym (seen-no es (k + 1) a m (omega arith)) ] ]
+      elim (cases-lt (firstPlace a m es) k) [
+        | inl l ↦ seen-yes es k a m l ∙ sym (seen-yes es (k + 1) a m (omega arith))
+        | inr l ↦
+            elim (cases-eq (firstPlace a m es) k) [
+              | inl e ↦
+                  let f = first-kind a m es (omega arith) in
+                  absurd (other (ap (λ (x : ℕ). getD es x no-event .kind) (sym e) ∙ f .0) (ap (λ (x : ℕ). getD es x no-event .number) (sym e) ∙ f .1))
+              | inr n ↦ seen-no es k a m l ∙ sym (seen-no es (k + 1) a m (omega arith))
+            ]
+      ]
 
   -- the event at k is the first of its kind and number
   seen-here : getD es k no-event .kind ≡ a → getD es k no-event .number ≡ m → k ≤ firstPlace a m es → seen es (k + 1) a m ≡ k
@@ -62,14 +64,15 @@ pub row-past : (es : List Event) (k a : ℕ) (row : List ℕ) → k < length es 
 row-past es k a row h other r m l = r m l ∙ seen-past es k a m h (λ x y. other x)
 
 pub row-put : (es : List Event) (k a : ℕ) (row : List ℕ) → length row ≡ 4096 → k < length es → getD es k no-event .kind ≡ a → getD es k no-event .number < 4096 →
-  k ≤ firstPlace a (getD es k no-event .number) es → Row es k a row → Row es (k + 1) a (set row (getD es k no-event .number) k)
+    k ≤ firstPlace a (getD es k no-event .number) es → Row es k a row → Row es (k + 1) a (set row (getD es k no-event .number) k)
 row-put es k a row len h kk nn first r m l =
     let n = getD es k no-event .number in
-    elim (cases-eq m n)
-    [ inl e ↦
-        subst (λ (x : ℕ). getD (set row n k) x 0 ≡ seen es (k + 1) a x) (sym e)
-        (getD-set-same row n k 0 (omega arith) ∙ sym (seen-here es k a n h kk refl first))
-    | inr e ↦ getD-set-other row n m k 0 e ∙ r m l ∙ seen-past es k a m h (λ x y. e (sym y)) ]
+    elim (cases-eq m n) [
+      | inl e ↦
+          subst (λ (x : ℕ). getD (set row n k) x 0 ≡ seen es (k + 1) a x) (sym e)
+          (getD-set-same row n k 0 (omega arith) ∙ sym (seen-here es k a n h kk refl first))
+      | inr e ↦ getD-set-other row n m k 0 e ∙ r m l ∙ seen-past es k a m h (λ x y. e (sym y))
+    ]
 
 -- the numbers of well formed events
 pub small-number : (ns : List ℕ) (es : List Event) (k : ℕ) → scan (wellFormed (length ns)) ns 0 es ≡ None → k < length es → getD es k no-event .number < 4096
@@ -96,35 +99,35 @@ module _ (es : List Event) (k : ℕ) (outs ins : List ℕ) (s : Seen es k outs i
         record { outputs-seen = row-past es k output outs h (λ o. n (inl o)) (s .outputs-seen); inputs-seen = row-past es k input ins h (λ i. n (inr i)) (s .inputs-seen) }
 
     pub seen-put : length outs ≡ 4096 → length ins ≡ 4096 → Message (getD es k no-event) → getD es k no-event .number < 4096 →
-      k ≤ firstPlace (getD es k no-event .kind) (getD es k no-event .number) es →
-      Seen es (k + 1) (cond (eqb (getD es k no-event .kind) output) (set outs (getD es k no-event .number) k) outs)
+        k ≤ firstPlace (getD es k no-event .kind) (getD es k no-event .number) es →
+        Seen es (k + 1) (cond (eqb (getD es k no-event .kind) output) (set outs (getD es k no-event .number) k) outs)
         (cond (eqb (getD es k no-event .kind) output) ins (set ins (getD es k no-event .number) k))
     seen-put lo li (inl o) n f =
         let e = getD es k no-event in
         let t = eq-eqb (e .kind) output o in
         record {
           outputs-seen =
-            subst (Row es (k + 1) output) (sym (cond-true (eqb (e .kind) output) (set outs (e .number) k) outs t))
-            (row-put es k output outs lo h o n (subst (λ (x : ℕ). k ≤ firstPlace x (e .number) es) o f) (s .outputs-seen));
+              subst (Row es (k + 1) output) (sym (cond-true (eqb (e .kind) output) (set outs (e .number) k) outs t))
+              (row-put es k output outs lo h o n (subst (λ (x : ℕ). k ≤ firstPlace x (e .number) es) o f) (s .outputs-seen));
           inputs-seen =
-            subst (Row es (k + 1) input) (sym (cond-true (eqb (e .kind) output) ins (set ins (e .number) k) t))
-            (row-past es k input ins h (λ i. omega arith) (s .inputs-seen));
+              subst (Row es (k + 1) input) (sym (cond-true (eqb (e .kind) output) ins (set ins (e .number) k) t))
+              (row-past es k input ins h (λ i. omega arith) (s .inputs-seen));
         }
     seen-put lo li (inr i) n f =
         let e = getD es k no-event in
         let t = ne-eqb (e .kind) output (λ o. omega arith) in
         record {
           outputs-seen =
-            subst (Row es (k + 1) output) (sym (cond-false (eqb (e .kind) output) (set outs (e .number) k) outs t))
-            (row-past es k output outs h (λ o. omega arith) (s .outputs-seen));
+              subst (Row es (k + 1) output) (sym (cond-false (eqb (e .kind) output) (set outs (e .number) k) outs t))
+              (row-past es k output outs h (λ o. omega arith) (s .outputs-seen));
           inputs-seen =
-            subst (Row es (k + 1) input) (sym (cond-false (eqb (e .kind) output) ins (set ins (e .number) k) t))
-            (row-put es k input ins li h i n (subst (λ (x : ℕ). k ≤ firstPlace x (e .number) es) i f) (s .inputs-seen));
+              subst (Row es (k + 1) input) (sym (cond-false (eqb (e .kind) output) ins (set ins (e .number) k) t))
+              (row-put es k input ins li h i n (subst (λ (x : ℕ). k ≤ firstPlace x (e .number) es) i f) (s .inputs-seen));
         }
 
   -- one turn of the pass: the answer of a look-up at the event k, and what it means
   module _ (r : ℕ) (n : getD es k no-event .number < 4096) (yes : isMessage (getD es k no-event) ≡ true)
-    (is : r ≡ cond (eqb (getD es k no-event .kind) output) (getD outs (getD es k no-event .number) 0) (getD ins (getD es k no-event .number) 0)) where
+      (is : r ≡ cond (eqb (getD es k no-event .kind) output) (getD outs (getD es k no-event .number) 0) (getD ins (getD es k no-event .number) 0)) where
     answer : r ≡ seen es k (getD es k no-event .kind) (getD es k no-event .number)
     answer = is ∙ look-up (getD es k no-event .kind) (getD es k no-event .number) (message-from (getD es k no-event) yes) n
 

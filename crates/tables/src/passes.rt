@@ -24,12 +24,19 @@ use charts::OUTPUT;
 
 // The rules of a table, by number.
 const LENGTHS: u8 = 11;
+
 const EVENTS: u8 = 12;
+
 const SUM: u8 = 13;
+
 const KIND: u8 = 14;
+
 const PEER: u8 = 15;
+
 const NUMBER: u8 = 16;
+
 const REPEATED: u8 = 17;
+
 const UNMATCHED: u8 = 18;
 
 // The layer of a fault that a table finds.
@@ -72,7 +79,11 @@ fn malformed(width: usize, e: &Event) -> Option<u8>
         (OUTPUT..=ACTION, _) => return Some(PEER),
         (_, _) => return Some(KIND),
     }
-    if e.number > MOST_NUMBER { Some(NUMBER) } else { None }
+    if e.number > MOST_NUMBER {
+        Some(NUMBER)
+    } else {
+        None
+    }
 }
 
 // The first event that is not well formed.
@@ -142,7 +153,13 @@ fn has_match(lengths: &[u16], events: &[Event], places: &MessagePlaces, k: usize
         (_, NOWHERE) => false,
         (peer, _) => {
             let here = locate(lengths, k).instance;
-            is_joined(lengths, events, usize::from(partner), usize::from(peer), here)
+            is_joined(
+                lengths,
+                events,
+                usize::from(partner),
+                usize::from(peer),
+                here,
+            )
         }
     }
 }

@@ -4,7 +4,7 @@ use Rattle.charts.specs.Events.{no-event}
 use Rattle.checks.specs.Rules.{matched}
 use Rattle.tables.proofs.Passing.{stop, onward, finish}
 use Rattle.tables.proofs.Rows.{small-number}
-use Rattle.tables.proofs.Checking.{match-action, match-found, match-missing}
+use Rattle.tables.proofs.Matching.{match-action, match-found, match-missing}
 use Rattle.tables.proofs.passes.first_unmatched.Needs as need
 use Rattle.tables.proofs.passes.first_unmatched.Needs.{else-is-message·by·then-is-message·else-not-has-match, else-is-message·by·else-is-message}
 
@@ -31,9 +31,10 @@ loop-k-again c =
     let es = c .args .events .now in
     let k = c .loop-k .k in
     onward (matched ns es) ns es k (c .loop-k .inv) (c .loop-k-test .taken)
-    (elim (c .else-is-message .came)
-    [ else-is-message·by·then-is-message·else-not-has-match w ↦ match-found ns es k (getD es k no-event) (sym (w .if-not-has-match .ensures tt))
-    | else-is-message·by·else-is-message w ↦ match-action ns es k (getD es k no-event) (sym (w .if-is-message .ensures tt)) ])
+    (elim (c .else-is-message .came) [
+      | else-is-message·by·then-is-message·else-not-has-match w ↦ match-found ns es k (getD es k no-event) (sym (w .if-not-has-match .ensures tt))
+      | else-is-message·by·else-is-message w ↦ match-action ns es k (getD es k no-event) (sym (w .if-is-message .ensures tt))
+    ])
 
 pub returns : need.returns
 returns c =

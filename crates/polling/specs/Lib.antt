@@ -1,0 +1,3 @@
+pub mod InTurn
+pub mod Polling
+pub mod Limits

@@ -1,0 +1,3 @@
+mod Computed
+mod Counted
+mod Summed

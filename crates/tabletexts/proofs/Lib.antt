@@ -1,0 +1,5 @@
+pub mod Backs
+pub mod Cuts
+pub mod Digits
+pub mod Peers
+pub mod Turns

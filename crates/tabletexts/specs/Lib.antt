@@ -1,0 +1,6 @@
+pub mod Lines
+pub mod Numeral
+pub mod Outcome
+pub mod Pieces
+pub mod Table
+pub mod Written
