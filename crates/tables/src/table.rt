@@ -20,16 +20,16 @@ use charts::Summary;
 
 // A chart over lent slices: a length for each instance, and the events, instance after instance.
 #[derive(Clone, Copy)]
-pub struct Table<'a> {
-    lengths: &'a [u16],
-    events: &'a [Event],
+pub struct Table<'l, 'e> {
+    lengths: &'l [u16],
+    events: &'e [Event],
     verdict: Result<Summary, Fault>,
     ghost judged: { verdict ≡ summed (checked (now lengths) (now events)) (tableLists (now lengths) (now events)) },
 }
 
-impl<'a> Table<'a> {
+impl<'l, 'e> Table<'l, 'e> {
     // The chart of any two slices; a table that breaks a rule is spoiled by the first one that it breaks.
-    pub fn new(lengths: &'a [u16], events: &'a [Event]) -> Table<'a>
+    pub fn new(lengths: &'l [u16], events: &'e [Event]) -> Table<'l, 'e>
         ensures kept { λ r. ⌜ (now (r .lengths) ≡ now (lengths .entry)) × (now (r .events) ≡ now (events .entry)) ⌝ }
         ensures judged { λ r. ⌜ r .verdict ≡ summed (checked (now (lengths .entry)) (now (events .entry))) (tableLists (now (lengths .entry)) (now (events .entry))) ⌝ }
         ensures sound { λ r. ⌜ Cases (r .verdict) (λ _. SoundTable (now (lengths .entry)) (now (events .entry))) (λ _. SoundTable (now (lengths .entry)) (now (events .entry)) → ⊥) ⌝ }
@@ -53,7 +53,7 @@ impl<'a> Table<'a> {
     }
 }
 
-pub impl<'a> Chart for Table<'a> as TableChart {
+pub impl<'l, 'e> Chart for Table<'l, 'e> as TableChart {
     ghost lists = { λ t. tableLists (now (t .lengths)) (now (t .events)) };
 
     ghost trouble = { λ t. checked (now (t .lengths)) (now (t .events)) };

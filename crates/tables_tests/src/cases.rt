@@ -8,7 +8,7 @@ use charts::OUTPUT;
 use tables::Table;
 use tables::TableChart;
 
-pub fn out(peer: u8, number: u16) -> Event {
+pub(crate) fn out(peer: u8, number: u16) -> Event {
     Event {
         kind: OUTPUT,
         peer,
@@ -16,7 +16,7 @@ pub fn out(peer: u8, number: u16) -> Event {
     }
 }
 
-pub fn input(peer: u8, number: u16) -> Event {
+pub(crate) fn input(peer: u8, number: u16) -> Event {
     Event {
         kind: INPUT,
         peer,
@@ -24,7 +24,7 @@ pub fn input(peer: u8, number: u16) -> Event {
     }
 }
 
-pub fn action(number: u16) -> Event {
+pub(crate) fn action(number: u16) -> Event {
     Event {
         kind: ACTION,
         peer: ENVIRONMENT,
@@ -33,7 +33,7 @@ pub fn action(number: u16) -> Event {
 }
 
 // An event with a kind that there is not.
-pub fn unknown(kind: u8) -> Event {
+pub(crate) fn unknown(kind: u8) -> Event {
     Event {
         kind,
         peer: ENVIRONMENT,
@@ -42,7 +42,7 @@ pub fn unknown(kind: u8) -> Event {
 }
 
 // The fault that a table finds, by number and place.
-pub fn at(number: u8, instance: u8, event: u16) -> Option<Fault> {
+pub(crate) fn at(number: u8, instance: u8, event: u16) -> Option<Fault> {
     Some(Fault {
         number,
         instance,
@@ -51,6 +51,6 @@ pub fn at(number: u8, instance: u8, event: u16) -> Option<Fault> {
     })
 }
 
-pub fn fault_of(lengths: &[u16], events: &[Event]) -> Option<Fault> {
+pub(crate) fn fault_of(lengths: &[u16], events: &[Event]) -> Option<Fault> {
     Table::new(lengths, events).fault()
 }

@@ -30,8 +30,14 @@ fn sums() -> Result<(), Fail> {
 
 #[test]
 fn kinds() -> Result<(), Fail> {
-    check_eq(fault_of(&[1, 2], &[unknown(0), action(0), action(0)]), at(14, 0, 0))?;
-    check_eq(fault_of(&[1, 2], &[action(0), action(0), unknown(4)]), at(14, 1, 1))?;
+    check_eq(
+        fault_of(&[1, 2], &[unknown(0), action(0), action(0)]),
+        at(14, 0, 0),
+    )?;
+    check_eq(
+        fault_of(&[1, 2], &[action(0), action(0), unknown(4)]),
+        at(14, 1, 1),
+    )?;
     check_eq(fault_of(&[0, 1, 0], &[unknown(255)]), at(14, 1, 0))
 }
 
@@ -52,15 +58,30 @@ fn an_action_with_an_instance() -> Result<(), Fail> {
 #[test]
 fn numbers() -> Result<(), Fail> {
     check_eq(fault_of(&[2], &[action(4095), out(255, 4095)]), None)?;
-    check_eq(fault_of(&[2], &[action(4096), out(255, 4095)]), at(16, 0, 0))?;
-    check_eq(fault_of(&[1, 1], &[action(4095), out(255, 4096)]), at(16, 1, 0))
+    check_eq(
+        fault_of(&[2], &[action(4096), out(255, 4095)]),
+        at(16, 0, 0),
+    )?;
+    check_eq(
+        fault_of(&[1, 1], &[action(4095), out(255, 4096)]),
+        at(16, 1, 0),
+    )
 }
 
 #[test]
 fn repeats() -> Result<(), Fail> {
-    check_eq(fault_of(&[2, 1], &[out(1, 5), out(1, 5), input(0, 5)]), at(17, 0, 1))?;
-    check_eq(fault_of(&[1, 2], &[out(1, 5), input(0, 5), input(0, 5)]), at(17, 1, 1))?;
-    check_eq(fault_of(&[1, 1], &[out(255, 4095), out(255, 4095)]), at(17, 1, 0))
+    check_eq(
+        fault_of(&[2, 1], &[out(1, 5), out(1, 5), input(0, 5)]),
+        at(17, 0, 1),
+    )?;
+    check_eq(
+        fault_of(&[1, 2], &[out(1, 5), input(0, 5), input(0, 5)]),
+        at(17, 1, 1),
+    )?;
+    check_eq(
+        fault_of(&[1, 1], &[out(255, 4095), out(255, 4095)]),
+        at(17, 1, 0),
+    )
 }
 
 #[test]
@@ -68,13 +89,19 @@ fn matches() -> Result<(), Fail> {
     check_eq(fault_of(&[1, 1], &[out(1, 5), action(5)]), at(18, 0, 0))?;
     check_eq(fault_of(&[1, 1], &[action(5), input(0, 5)]), at(18, 1, 0))?;
     check_eq(fault_of(&[1, 1], &[out(1, 5), input(1, 5)]), at(18, 0, 0))?;
-    check_eq(fault_of(&[1, 1, 1], &[out(1, 5), action(0), input(0, 5)]), at(18, 0, 0))
+    check_eq(
+        fault_of(&[1, 1, 1], &[out(1, 5), action(0), input(0, 5)]),
+        at(18, 0, 0),
+    )
 }
 
 #[test]
 fn the_environment() -> Result<(), Fail> {
     check_eq(fault_of(&[2], &[out(255, 5), input(255, 6)]), None)?;
-    check_eq(fault_of(&[1, 1], &[out(255, 5), input(255, 5)]), at(18, 0, 0))?;
+    check_eq(
+        fault_of(&[1, 1], &[out(255, 5), input(255, 5)]),
+        at(18, 0, 0),
+    )?;
     check_eq(fault_of(&[1, 1], &[out(255, 5), input(0, 5)]), at(18, 0, 0))?;
     check_eq(fault_of(&[1, 1], &[out(255, 5), action(5)]), None)
 }
@@ -100,8 +127,17 @@ fn two_faults_in_one_event() -> Result<(), Fail> {
 
 #[test]
 fn a_later_pass_waits() -> Result<(), Fail> {
-    check_eq(fault_of(&[3], &[out(255, 1), out(255, 1), action(4096)]), at(16, 0, 2))?;
-    check_eq(fault_of(&[3], &[out(0, 1), out(255, 2), out(255, 2)]), at(17, 0, 2))?;
-    check_eq(fault_of(&[3], &[out(255, 2), out(255, 2), out(0, 1)]), at(17, 0, 1))?;
+    check_eq(
+        fault_of(&[3], &[out(255, 1), out(255, 1), action(4096)]),
+        at(16, 0, 2),
+    )?;
+    check_eq(
+        fault_of(&[3], &[out(0, 1), out(255, 2), out(255, 2)]),
+        at(17, 0, 2),
+    )?;
+    check_eq(
+        fault_of(&[3], &[out(255, 2), out(255, 2), out(0, 1)]),
+        at(17, 0, 1),
+    )?;
     check_eq(fault_of(&[2], &[out(0, 1), out(0, 2)]), at(18, 0, 0))
 }

@@ -66,7 +66,8 @@ fn a_spoiled_chart_is_empty() -> Result<(), Fail> {
 
 #[test]
 fn actions_have_no_span() -> Result<(), Fail> {
-    let table = Table::new(&[1, 1], &[action(4095), action(4095)]);
+    let events = [action(4095); 2];
+    let table = Table::new(&[1, 1], &events);
     check(table.fault().is_none())?;
     check_eq(table.span(), 0)
 }
