@@ -153,6 +153,12 @@ module _ (ns : List ℕ) (es : List Event) where
           number = s .sound .numbers i k e a;
         }
 
+    -- the event at p, by its kind and number
+    at-event : (p : ℕ) → p < length es → (a m : ℕ) → getD es p no-event .kind ≡ a → getD es p no-event .number ≡ m →
+        At (cut ns es) (instanceOf ns p) (indexOf ns p) (event a (getD es p no-event .peer) m)
+    at-event p l a m k n =
+        subst (At (cut ns es) (instanceOf ns p) (indexOf ns p)) (λ t. record { kind = k t; peer = getD es p no-event .peer; number = n t }) (at-of p l)
+
     -- events of one kind and number are one
     kind-one : (p q : ℕ) → p < length es → q < length es → Message (getD es p no-event) → getD es q no-event .kind ≡ getD es p no-event .kind →
         getD es q no-event .number ≡ getD es p no-event .number → p ≡ q
@@ -163,12 +169,10 @@ module _ (ns : List ℕ) (es : List Event) where
         (elim m [
           | inl o ↦
               s .sound .one-output (x .number) (instanceOf ns p) (indexOf ns p) (x .peer) (instanceOf ns q) (indexOf ns q) (y .peer)
-              (subst (λ (z : ℕ). At (cut ns es) (instanceOf ns p) (indexOf ns p) (event z (x .peer) (x .number))) o (at-of p lp))
-              (subst (λ (z : Event). At (cut ns es) (instanceOf ns q) (indexOf ns q) z) (λ t. record { kind = (k ∙ o) t; peer = y .peer; number = n t }) (at-of q lq))
+              (at-event p lp output (x .number) o refl) (at-event q lq output (x .number) (k ∙ o) n)
           | inr o ↦
               s .sound .one-input (x .number) (instanceOf ns p) (indexOf ns p) (x .peer) (instanceOf ns q) (indexOf ns q) (y .peer)
-              (subst (λ (z : ℕ). At (cut ns es) (instanceOf ns p) (indexOf ns p) (event z (x .peer) (x .number))) o (at-of p lp))
-              (subst (λ (z : Event). At (cut ns es) (instanceOf ns q) (indexOf ns q) z) (λ t. record { kind = (k ∙ o) t; peer = y .peer; number = n t }) (at-of q lq))
+              (at-event p lp input (x .number) o refl) (at-event q lq input (x .number) (k ∙ o) n)
         ])
 
     sound-single : (p : ℕ) → p < length es → Message (getD es p no-event) → p ≤ firstPlace (getD es p no-event .kind) (getD es p no-event .number) es
@@ -197,15 +201,14 @@ module _ (ns : List ℕ) (es : List Event) where
         (l : ℕ) × At (cut ns es) (getD es p no-event .peer) l (event (otherKind (getD es p no-event .kind)) (instanceOf ns p) (getD es p no-event .number))
     match-of p lp m lt =
         let x = getD es p no-event in
+        let i = instanceOf ns p in
         elim m [
           | inl o ↦
-              let r = s .sound .outputs-matched (x .number) (instanceOf ns p) (indexOf ns p) (x .peer)
-              (subst (λ (z : ℕ). At (cut ns es) (instanceOf ns p) (indexOf ns p) (event z (x .peer) (x .number))) o (at-of p lp)) lt in
-              (r .0, subst (λ (z : ℕ). At (cut ns es) (x .peer) (r .0) (event z (instanceOf ns p) (x .number))) (sym (ap otherKind o)) (r .1))
+              let r = s .sound .outputs-matched (x .number) i (indexOf ns p) (x .peer) (at-event p lp output (x .number) o refl) lt in
+              (r .0, subst (λ (z : ℕ). At (cut ns es) (x .peer) (r .0) (event z i (x .number))) (sym (ap otherKind o)) (r .1))
           | inr o ↦
-              let r = s .sound .inputs-matched (x .number) (instanceOf ns p) (indexOf ns p) (x .peer)
-              (subst (λ (z : ℕ). At (cut ns es) (instanceOf ns p) (indexOf ns p) (event z (x .peer) (x .number))) o (at-of p lp)) lt in
-              (r .0, subst (λ (z : ℕ). At (cut ns es) (x .peer) (r .0) (event z (instanceOf ns p) (x .number))) (sym (ap otherKind o)) (r .1))
+              let r = s .sound .inputs-matched (x .number) i (indexOf ns p) (x .peer) (at-event p lp input (x .number) o refl) lt in
+              (r .0, subst (λ (z : ℕ). At (cut ns es) (x .peer) (r .0) (event z i (x .number))) (sym (ap otherKind o)) (r .1))
         ]
 
     sound-alone : (p : ℕ) → p < length es → Message (getD es p no-event) → getD es p no-event .peer ≡ environment → length es ≤ partner es (getD es p no-event)
