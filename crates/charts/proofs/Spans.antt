@@ -75,3 +75,14 @@ pub record Spans (L : List (List Event)) (n : ℕ) : Type 0 where
 
 pub spans : (L : List (List Event)) → Spans L (span L)
 spans L = record { below = span-below L; reached = span-reached L }
+
+-- only the span is above every message number and reached
+span-least : (L : List (List Event)) (a b : ℕ) → Spans L a → Spans L b → a ≤ b
+span-least L a b x y =
+    elim (x .reached) [
+      | inl z ↦ omega arith
+      | inr h ↦ let below = y .below (h .0) (h .1) (h .2) (h .3) (h .4) in let top = h .5 in omega arith
+    ]
+
+pub same-span : (L : List (List Event)) (a b : ℕ) → Spans L a → Spans L b → a ≡ b
+same-span L a b x y = let low = span-least L a b x y in let high = span-least L b a y x in omega arith

@@ -1,25 +1,16 @@
 -- The span of a poll of n keypads and r rounds is 2 n r.
 use Prim.Native.Nat.{ℕ, suc, _+_, _-_, _*_, _/_, _%_, _≤_}
-use mathlib.Core.List.{List}
 use mathlib.Core.Logic.{inl, inr}
 use mathlib.Core.Path.{_≡_, refl}
 use native.Mathlib.Omega.{arith}
 use Rattle.std.proofs.shelf.Tests.{cases-lt}
-use Rattle.charts.specs.declared.parts.Event.{Event}
 use Rattle.charts.specs.Events.{event, input}
 use Rattle.charts.specs.Span.{span}
-use Rattle.charts.proofs.Spans.{Spans, spans}
+use Rattle.charts.proofs.Spans.{Spans, spans, same-span}
 use Rattle.polling.specs.Polling.{polling}
 use Rattle.polling.proofs.Happens.{at-hears}
 use Rattle.polling.proofs.Places.{exchange}
 use Rattle.polling.proofs.Sound.{fair}
-
-span-least : (L : List (List Event)) (a b : ℕ) → Spans L a → Spans L b → a ≤ b
-span-least L a b x y =
-    elim (x .reached) [
-      | inl z ↦ omega arith
-      | inr h ↦ let below = y .below (h .0) (h .1) (h .2) (h .3) (h .4) in let top = h .5 in omega arith
-    ]
 
 -- the last reply, where there is one
 spans-polling : (n r : ℕ) → Spans (polling n r) (2 * (n * r))
@@ -39,8 +30,4 @@ spans-polling n r =
     }
 
 pub span-polling : (n r : ℕ) → span (polling n r) ≡ 2 * (n * r)
-span-polling n r =
-    let L = polling n r in
-    let low = span-least L (span L) (2 * (n * r)) (spans L) (spans-polling n r) in
-    let high = span-least L (2 * (n * r)) (span L) (spans-polling n r) (spans L) in
-    omega arith
+span-polling n r = same-span (polling n r) (span (polling n r)) (2 * (n * r)) (spans (polling n r)) (spans-polling n r)
