@@ -21,7 +21,7 @@ enum Wanted {
 }
 
 // No argument asks for the table on standard input, `poll N R` for the poll of N keypads in R rounds.
-fn wanted(rt: &LibcRuntime) -> Result<Wanted, AnyError> {
+fn asked(rt: &LibcRuntime) -> Result<Wanted, AnyError> {
     let mut words = Vec::new(rt.alloc());
     for word in env::args(rt)? {
         words.push(word)?;
@@ -65,7 +65,7 @@ fn show_table(rt: &LibcRuntime) -> Result<(), AnyError> {
 }
 
 fn run(rt: &LibcRuntime) -> Result<(), AnyError> {
-    match wanted(rt)? {
+    match asked(rt)? {
         Wanted::Table => show_table(rt),
         Wanted::Poll(keypads, rounds) => show(rt, &Poll::new(keypads, rounds)),
         Wanted::Help => {

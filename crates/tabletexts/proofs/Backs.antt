@@ -17,7 +17,7 @@ use Rattle.std.specs.declared.option.Option.the-variants.{Some, None}
 use Rattle.std.specs.declared.result.Result.{Result}
 use Rattle.std.specs.declared.result.Result.the-variants.{Ok}
 use Rattle.charts.specs.declared.parts.Event.{Event}
-use Rattle.tabletexts.specs.Lines.{spaced}
+use Rattle.listings.specs.Lines.{spaced}
 use Rattle.tabletexts.specs.Numeral.{isDigit, numeralAfter, numeral, upTo}
 use Rattle.tabletexts.specs.Outcome.{Answers}
 use Rattle.tabletexts.specs.declared.parts.TableText.{TableText}

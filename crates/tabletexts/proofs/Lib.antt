@@ -1,5 +1,4 @@
 pub mod Backs
 pub mod Cuts
 pub mod Digits
-pub mod Peers
 pub mod Turns

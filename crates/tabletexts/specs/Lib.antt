@@ -1,4 +1,3 @@
-pub mod Lines
 pub mod Numeral
 pub mod Outcome
 pub mod Pieces

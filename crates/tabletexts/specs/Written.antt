@@ -4,7 +4,7 @@ use mathlib.Core.List.{List, [], _∷_, _++_, map}
 use Rattle.std.specs.shelf.Lists.{All}
 use Rattle.std.specs.Written.{decimal}
 use Rattle.charts.specs.declared.parts.Event.{Event}
-use Rattle.tabletexts.specs.Lines.{spaced}
+use Rattle.listings.specs.Lines.{spaced}
 use Rattle.tabletexts.specs.Table.{Table}
 
 -- an event's line

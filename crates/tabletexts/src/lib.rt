@@ -1,9 +1,8 @@
-// The text form of a chart's table, and the lines that tell of a chart.
+// The text form of a chart's table.
 mod parts;
 mod reading;
 #[cfg(test)]
 mod tests;
-mod writing;
 
 pub use parts::TableText;
 pub use parts::Unread;
@@ -11,8 +10,3 @@ pub use parts::UnreadDebug;
 pub use parts::UnreadFromAlloc;
 pub use parts::UnreadFromRefused;
 pub use reading::read;
-pub use writing::chart_line;
-pub use writing::event_line;
-pub use writing::fault_line;
-pub use writing::kind_name;
-pub use writing::unreadable_line;

@@ -1,12 +1,12 @@
 use crate::Unread;
 use crate::UnreadDebug;
-use crate::chart_line;
-use crate::event_line;
-use crate::fault_line;
 use crate::read;
-use crate::unreadable_line;
+use charts::ACTION;
+use charts::ENVIRONMENT;
 use charts::Event;
-use charts::Fault;
+use charts::EventDebug;
+use charts::EventPartialEq;
+use charts::OUTPUT;
 use std::alloc::Global;
 use std::test::*;
 
@@ -33,11 +33,19 @@ fn an_empty_text_is_an_empty_table(rt: LibcRuntime) -> Result<(), Fail> {
 fn a_table_is_read(rt: LibcRuntime) -> Result<(), Fail> {
     let table = read(rt.alloc(), b"1 0 65535\n1 255 17\n\n03 0 0065535")?;
     check_eq(table.lengths.as_slice(), &[1, 0, 65535])?;
-    check(table.events.len() == 2)?;
-    let first = event_line(rt.alloc(), 0, 0, table.events[0])?;
-    check_eq(first.as_str(), "0 0 out env 17")?;
-    let second = event_line(rt.alloc(), 2, 10, table.events[1])?;
-    check_eq(second.as_str(), "2 10 action 0 65535")
+    let events = [
+        Event {
+            kind: OUTPUT,
+            peer: ENVIRONMENT,
+            number: 17,
+        },
+        Event {
+            kind: ACTION,
+            peer: 0,
+            number: 65535,
+        },
+    ];
+    check_eq(table.events.as_slice(), &events)
 }
 
 #[test]
@@ -61,24 +69,4 @@ fn the_first_unreadable_line_is_told(rt: LibcRuntime) -> Result<(), Fail> {
         check_eq(unreadable(rt.alloc(), text), line)?;
     }
     Ok(())
-}
-
-#[test]
-fn lines_tell_of_a_chart(rt: LibcRuntime) -> Result<(), Fail> {
-    let heap = rt.alloc();
-    let event = Event {
-        kind: 2,
-        peer: 1,
-        number: 9,
-    };
-    check_eq(event_line(heap, 0, 3, event)?.as_str(), "0 3 in 1 9")?;
-    check_eq(chart_line(heap, 3, 14, 7)?.as_str(), "chart 3 14 7")?;
-    let fault = Fault {
-        number: 17,
-        instance: 2,
-        event: 300,
-        layer: 0,
-    };
-    check_eq(fault_line(heap, fault)?.as_str(), "spoiled 17 2 300 0")?;
-    check_eq(unreadable_line(heap, 12)?.as_str(), "unreadable 12")
 }

@@ -1,7 +1,8 @@
 ghost use mathlib.Core.Path.{_≡_};
 ghost use Rattle.std.specs.Of.String.{string-bytes};
 ghost use Rattle.std.specs.Vec.{made};
-ghost use Rattle.tabletexts.specs.Lines.{chartLine, eventLine, faultLine, kindName, unreadableLine};
+ghost use Rattle.std.specs.declared.option.Option.the-variants.{Some};
+ghost use Rattle.listings.specs.Lines.{chartLine, eventLine, faultLine, kindName, peerName, unreadableLine};
 use charts::ACTION;
 use charts::ENVIRONMENT;
 use charts::Event;
@@ -10,6 +11,7 @@ use charts::INPUT;
 use charts::OUTPUT;
 use std::alloc::AllocError;
 use std::alloc::Global;
+use std::fmt;
 
 // The name of an event's kind. A sound chart has no event without a kind.
 pub fn kind_name(kind: u8) -> &'static str
@@ -23,6 +25,35 @@ pub fn kind_name(kind: u8) -> &'static str
     }
 }
 
+// A kind, shown by its name.
+#[derive(Drop)]
+struct Kind(u8);
+
+impl fmt::Display for Kind as KindDisplay {
+    ghost shown = { λ k. Some (kindName (k .0)) };
+
+    fn fmt<W: fmt::Write>(&self, f: &mut fmt::Formatter<W>) -> fmt::Result {
+        f.write_str(kind_name(self.0))
+    }
+}
+
+// A peer, shown by its number, or as the environment.
+#[derive(Drop)]
+struct Peer(u8);
+
+impl fmt::Display for Peer as PeerDisplay {
+    ghost shown = { λ p. Some (peerName (p .0)) };
+
+    fn fmt<W: fmt::Write>(&self, f: &mut fmt::Formatter<W>) -> fmt::Result {
+        let number = self.0;
+        if number == ENVIRONMENT {
+            f.write_str("env")
+        } else {
+            write!(f, "{number}")
+        }
+    }
+}
+
 // The line of the event at an index of an instance.
 pub fn event_line(
     heap: Global,
@@ -32,14 +63,10 @@ pub fn event_line(
 ) -> Result<String, AllocError>
     ensures { λ r. ⌜ made r (λ s. string-bytes s ≡ eventLine instance index event) ⌝ }
 {
-    let kind = kind_name(event.kind);
-    let peer = event.peer;
+    let kind = Kind(event.kind);
+    let peer = Peer(event.peer);
     let number = event.number;
-    if peer == ENVIRONMENT {
-        format!(heap, "{instance} {index} {kind} env {number}")
-    } else {
-        format!(heap, "{instance} {index} {kind} {peer} {number}")
-    }
+    format!(heap, "{instance} {index} {kind} {peer} {number}")
 }
 
 // The line of a chart's size.
