@@ -20,6 +20,19 @@ enum Wanted {
     Help,
 }
 
+// The number that the word writes in decimal; one too large to hold is as large as can be held.
+fn size(word: &str) -> Option<usize> {
+    if word.is_empty() {
+        return None;
+    }
+    for b in word.bytes() {
+        if !b.is_ascii_digit() {
+            return None;
+        }
+    }
+    Some(word.parse::<usize>().unwrap_or(usize::MAX))
+}
+
 // No argument asks for the table on standard input, `poll N R` for the poll of N keypads in R rounds.
 fn asked(rt: &LibcRuntime) -> Result<Wanted, AnyError> {
     let mut words = Vec::new(rt.alloc());
@@ -30,11 +43,8 @@ fn asked(rt: &LibcRuntime) -> Result<Wanted, AnyError> {
         match words.as_slice() {
             [] | [_] => Wanted::Table,
             [_, poll, keypads, rounds] if poll.as_str() == "poll" => {
-                match (
-                    keypads.as_str().parse::<usize>(),
-                    rounds.as_str().parse::<usize>(),
-                ) {
-                    (Ok(n), Ok(r)) => Wanted::Poll(n, r),
+                match (size(keypads.as_str()), size(rounds.as_str())) {
+                    (Some(n), Some(r)) => Wanted::Poll(n, r),
                     (_, _) => Wanted::Help,
                 }
             }
