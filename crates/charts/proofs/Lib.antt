@@ -1,3 +1,4 @@
+pub mod Bounds
 pub mod Messages
 pub mod Spans
 pub mod Summaries

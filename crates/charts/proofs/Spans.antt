@@ -10,6 +10,7 @@ use Rattle.std.proofs.shelf.Tests.{cases-lt, cases-bool, cond-true, cond-false}
 use Rattle.charts.specs.declared.parts.Event.{Event}
 use Rattle.charts.specs.Events.{Message, isMessage, no-event}
 use Rattle.charts.specs.Lists.{At}
+use Rattle.charts.specs.Sound.{Sound}
 use Rattle.charts.specs.Span.{above, spanOf, span}
 use Rattle.charts.proofs.Messages.{message-yes, message-from}
 
@@ -86,3 +87,9 @@ span-least L a b x y =
 
 pub same-span : (L : List (List Event)) (a b : ℕ) → Spans L a → Spans L b → a ≡ b
 same-span L a b x y = let low = span-least L a b x y in let high = span-least L b a y x in omega arith
+
+-- a sound chart spans at most 4,096
+pub sound-span : (L : List (List Event)) → Sound L → span L ≤ 4096
+sound-span L s =
+    elim (span-reached L)
+    [ inl z ↦ omega arith | inr h ↦ let n = s .numbers (h .0) (h .1) (h .2) (h .3) in let top = h .5 in omega arith ]

@@ -1,0 +1,11 @@
+pub mod Moving
+pub mod Union
+pub mod Sizes
+pub mod Judging
+pub mod Afters
+pub mod Besides
+pub mod Totals
+pub mod Recasts
+pub mod Regrouped
+pub mod Undone
+pub mod Laws

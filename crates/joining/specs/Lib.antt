@@ -1,0 +1,5 @@
+pub mod Moves
+pub mod Joined
+pub mod After
+pub mod Beside
+pub mod Recast

@@ -1,0 +1,3 @@
+pub mod Weights
+pub mod Following
+pub mod Adjoining
