@@ -52,7 +52,7 @@ module _ (ns : List ℕ) (es : List Event) where
   pub whole : (s : Summary) → Ok s ≡ summed (checked ns es) (tableLists ns es) → Passed ns es
   whole s e = passed-from ns es (summed-ok (checked ns es) (tableLists ns es) s e .whole)
 
-  lists-whole : (s : Summary) → Ok s ≡ summed (checked ns es) (tableLists ns es) → tableLists ns es ≡ cut ns es
+  pub lists-whole : (s : Summary) → Ok s ≡ summed (checked ns es) (tableLists ns es) → tableLists ns es ≡ cut ns es
   lists-whole s e = ap (λ (f : Option Fault). unspoiled f (cut ns es)) (summed-ok (checked ns es) (tableLists ns es) s e .whole)
 
   pub counted : (s : Summary) (i : ℕ) → Ok s ≡ summed (checked ns es) (tableLists ns es) → getD ns i 0 ≡ countOf (tableLists ns es) i

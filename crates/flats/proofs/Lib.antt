@@ -1,0 +1,4 @@
+pub mod Joins
+pub mod Turns
+pub mod Copied
+pub mod Held
