@@ -3,10 +3,10 @@ use Prim.Native.Nat.{ℕ, zero, suc, max, _<_, _≤_}
 use mathlib.Core.Bool.{Bool, true, false, cond}
 use mathlib.Core.List.{List, [], _∷_}
 use mathlib.Core.Logic.{_⊎_, inl, inr}
-use mathlib.Core.Path.{_≡_, refl, ap, subst, _∙_, sym}
+use mathlib.Core.Path.{_≡_, refl, ap, subst, sym}
 use native.Mathlib.Omega.{arith}
 use lib.ListN.{length, getD}
-use Rattle.std.proofs.shelf.Tests.{cases-lt, cases-bool, cond-true, cond-false}
+use Rattle.std.proofs.shelf.Tests.{cases-lt, cond-true}
 use Rattle.charts.specs.declared.parts.Event.{Event}
 use Rattle.charts.specs.Events.{Message, isMessage, no-event}
 use Rattle.charts.specs.Lists.{At}

@@ -1,5 +1,4 @@
 -- What every chart owes, and what its summary answers.
-use Prim.Native.Nat.{ℕ}
 use mathlib.Core.List.{List, []}
 use mathlib.Core.Path.{_≡_}
 use lib.ListN.{length}

@@ -1,6 +1,6 @@
 -- The events of a chart: a list for each instance. Instances, and the events of each, count from 0.
 use Prim.Native.Nat.{ℕ, _<_}
-use mathlib.Core.List.{List, [], map}
+use mathlib.Core.List.{List, []}
 use mathlib.Core.Path.{_≡_}
 use lib.ListN.{length, getD}
 use Rattle.std.specs.shelf.Lists.{sumBy}

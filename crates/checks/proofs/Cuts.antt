@@ -1,9 +1,8 @@
 -- The events of a table and the events of its lists are the same, place by place.
-use Prim.Native.Nat.{ℕ, zero, suc, min, max, _+_, _-_, _<_, _≤_}
+use Prim.Native.Nat.{ℕ, zero, suc, max, _+_, _-_, _<_, _≤_}
 use mathlib.Core.Bool.{Bool, true, false, cond}
 use mathlib.Core.List.{List, [], _∷_}
-use mathlib.Core.Logic.{_⊎_, inl, inr}
-use mathlib.Core.Path.{_≡_, refl, ap, subst, sym, _∙_}
+use mathlib.Core.Path.{_≡_, refl, ap, sym, _∙_}
 use native.Mathlib.Omega.{arith}
 use lib.Dec.{ltb}
 use lib.ListN.{length, getD, take, drop}
@@ -14,7 +13,7 @@ use Rattle.std.proofs.shelf.Tests.{lt-ltb, le-ltb, ltb-true, ltb-false}
 use Rattle.charts.specs.declared.parts.Event.{Event}
 use Rattle.charts.specs.Events.{no-event}
 use Rattle.charts.specs.Lists.{At, size, countOf, eventOf}
-use Rattle.charts.specs.Span.{above, spanOf, span}
+use Rattle.charts.specs.Span.{spanOf, span}
 use Rattle.checks.specs.Cut.{cut, instanceOf, indexOf}
 
 pub sum-cons : (n : ℕ) (ns : List ℕ) → sum (n ∷ ns) ≡ n + sum ns

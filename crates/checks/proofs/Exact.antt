@@ -6,7 +6,6 @@ use mathlib.Core.Path.{_≡_, refl, ap, _∙_, sym, subst}
 use native.Mathlib.Omega.{arith}
 use lib.ListN.{length, getD}
 use Rattle.std.specs.declared.option.Option.the-variants.{None}
-use Rattle.std.specs.shelf.Lists.{sum}
 use Rattle.std.proofs.shelf.Tests.{cases-lt, cases-eq}
 use Rattle.charts.specs.declared.parts.Event.{Event}
 use Rattle.charts.specs.Events.{event, output, input, action, environment, Message, no-event}
@@ -16,8 +15,8 @@ use Rattle.checks.specs.Cut.{cut, instanceOf, indexOf}
 use Rattle.checks.specs.Rules.{firstPlace, otherKind}
 use Rattle.checks.specs.Checked.{checked}
 use Rattle.checks.specs.SoundTable.{SoundTable}
-use Rattle.checks.proofs.Cuts.{Flat, at-flat, flat-at, same-place, cut-length, cut-size}
-use Rattle.checks.proofs.Places.{of-yes, of-from, first-bound, first-is, first-least}
+use Rattle.checks.proofs.Cuts.{at-flat, flat-at, same-place, cut-length, cut-size}
+use Rattle.checks.proofs.Places.{of-yes, of-from, first-is, first-least}
 use Rattle.checks.proofs.Passed.{Formed, Joined, Paired, Passed, partner, passed-from, passed-none}
 
 -- what the first place of a kind and number holds

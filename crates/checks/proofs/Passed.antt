@@ -1,20 +1,20 @@
 -- The checks of a table as facts about its events, place by place.
 use Prim.Native.Nat.{ℕ, _+_, _<_, _≤_}
 use mathlib.Core.Bool.{Bool, true, false, cond, not, _&&_, _||_}
-use mathlib.Core.List.{List, [], _∷_}
+use mathlib.Core.List.{List}
 use mathlib.Core.Logic.{_⊎_, inl, inr}
-use mathlib.Core.Path.{_≡_, refl, ap, _∙_, sym, subst}
+use mathlib.Core.Path.{_≡_, refl, _∙_, subst}
 use native.Mathlib.Omega.{arith}
 use lib.Dec.{eqb, leb, ltb}
 use lib.ListN.{length, getD}
 use Rattle.std.specs.declared.option.Option.{Option}
-use Rattle.std.specs.declared.option.Option.the-variants.{Some, None}
+use Rattle.std.specs.declared.option.Option.the-variants.{None}
 use Rattle.std.specs.shelf.Lists.{sum}
 use Rattle.std.proofs.shelf.Tests.{and-parts, and-from, or-cases, or-left, or-right, not-true, eqb-true, eqb-false, eq-eqb, ne-eqb, leb-true, le-leb, ltb-true, lt-ltb, cases-eq, cases-bool, both-ways, not-from-false, cond-true, cond-false}
 use Rattle.charts.specs.declared.parts.Event.{Event}
-use Rattle.charts.specs.Events.{output, input, action, environment, Message, isMessage, no-event}
+use Rattle.charts.specs.Events.{output, action, environment, Message, isMessage, no-event}
 use Rattle.charts.proofs.Messages.{message-yes, message-from}
-use Rattle.checks.specs.Choice.{unless, orElse, earliest}
+use Rattle.checks.specs.Choice.{unless}
 use Rattle.checks.specs.Cut.{instanceOf}
 use Rattle.checks.specs.Rules.{knownKind, knownPeer, wellFormed, firstPlace, notRepeated, otherKind, joins, hasMatch, matched}
 use Rattle.checks.specs.Checked.{tableFault, scan, checked}

@@ -1,12 +1,12 @@
 -- Where the first event of a kind and number stands.
 use Prim.Native.Nat.{ℕ, zero, suc, _<_, _≤_}
-use mathlib.Core.Bool.{Bool, true, false, cond, _&&_}
+use mathlib.Core.Bool.{Bool, true, false, cond}
 use mathlib.Core.List.{List, [], _∷_}
-use mathlib.Core.Path.{_≡_, refl, ap, _∙_, sym}
+use mathlib.Core.Path.{_≡_, refl, ap}
 use native.Mathlib.Omega.{arith}
 use lib.Dec.{eqb}
 use lib.ListN.{length, getD}
-use Rattle.std.proofs.shelf.Tests.{eq-eqb, eqb-true, and-from, and-parts, both-ways}
+use Rattle.std.proofs.shelf.Tests.{eq-eqb, eqb-true, and-from, and-parts}
 use Rattle.charts.specs.declared.parts.Event.{Event}
 use Rattle.charts.specs.Events.{no-event}
 use Rattle.checks.specs.Rules.{isOf, firstPlace}

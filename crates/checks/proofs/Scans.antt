@@ -1,16 +1,14 @@
 -- A scan finds the first event that breaks its rule.
 use Prim.Native.Nat.{ℕ, zero, suc, _+_, _<_, _≤_}
 use mathlib.Core.List.{List, [], _∷_}
-use mathlib.Core.Path.{_≡_, refl, ap, _∙_, sym, subst}
+use mathlib.Core.Path.{_≡_, refl, ap, _∙_, subst}
 use native.Mathlib.Omega.{arith}
 use lib.ListN.{length, getD, drop}
 use Rattle.std.specs.declared.option.Option.{Option}
 use Rattle.std.specs.declared.option.Option.the-variants.{Some, None}
 use Rattle.std.proofs.shelf.Lists.{at-drop-more, at-drop-all}
 use Rattle.charts.specs.declared.parts.Event.{Event}
-use Rattle.charts.specs.declared.parts.Fault.{Fault}
 use Rattle.charts.specs.Events.{no-event}
-use Rattle.checks.specs.Choice.{orElse}
 use Rattle.checks.specs.Cut.{instanceOf, indexOf}
 use Rattle.checks.specs.Checked.{tableFault, blamed, scan}
 use Rattle.checks.proofs.Chosen.{orElse-none, none-orElse, some-orElse, some-none}

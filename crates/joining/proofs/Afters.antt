@@ -13,11 +13,11 @@ use Rattle.charts.specs.Events.{no-event}
 use Rattle.charts.specs.Lists.{At, column, countOf, eventOf, size}
 use Rattle.charts.proofs.Bounds.{past-count}
 use Rattle.charts.specs.Sound.{Sound}
-use Rattle.charts.specs.Span.{spanOf, span}
+use Rattle.charts.specs.Span.{span}
 use Rattle.joining.specs.Moves.{moved}
 use Rattle.joining.specs.After.{append, after}
 use Rattle.joining.proofs.Moving.{moved-nowhere, map-at, at-map, map-count}
-use Rattle.joining.proofs.Sizes.{Raised, raised-span, moved-size, spanOf-append}
+use Rattle.joining.proofs.Sizes.{raised-span, moved-size, spanOf-append}
 use Rattle.joining.proofs.Union.{Part, From, union-sound}
 use Rattle.joining.proofs.Judging.{joined-judged}
 use Rattle.joining.specs.Joined.{joinTrouble, joinLists}

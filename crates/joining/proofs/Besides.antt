@@ -1,6 +1,6 @@
 -- One chart beside another is sound, within the limits.
-use Prim.Native.Nat.{ℕ, zero, suc, max, _+_, _-_, _<_, _≤_}
-use mathlib.Core.List.{List, [], _∷_, _++_, map}
+use Prim.Native.Nat.{ℕ, _+_, _-_, _<_, _≤_}
+use mathlib.Core.List.{List, [], _++_, map}
 use mathlib.Core.Logic.{_⊎_, inl, inr}
 use mathlib.Core.Path.{_≡_, refl, ap, sym, subst, _∙_}
 use native.Mathlib.Omega.{arith}
@@ -10,13 +10,13 @@ use Rattle.std.proofs.shelf.Sums.{sumBy-append}
 use Rattle.std.proofs.shelf.Tests.{cases-lt}
 use Rattle.charts.specs.declared.parts.Event.{Event}
 use Rattle.charts.specs.Events.{no-event}
-use Rattle.charts.specs.Lists.{At, column, countOf, size}
+use Rattle.charts.specs.Lists.{At, column, size}
 use Rattle.charts.specs.Sound.{Sound}
-use Rattle.charts.specs.Span.{spanOf, span}
+use Rattle.charts.specs.Span.{span}
 use Rattle.joining.specs.Moves.{moved}
 use Rattle.joining.specs.Beside.{beside}
 use Rattle.joining.proofs.Moving.{moved-nowhere, map-at, at-map, map-column, at-instance}
-use Rattle.joining.proofs.Sizes.{Raised, raised-span, moved-size, span-append}
+use Rattle.joining.proofs.Sizes.{raised-span, moved-size, span-append}
 use Rattle.joining.proofs.Union.{Part, From, union-sound}
 use Rattle.joining.proofs.Judging.{joined-judged}
 use Rattle.joining.specs.Joined.{joinTrouble, joinLists}

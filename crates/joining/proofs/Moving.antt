@@ -1,16 +1,15 @@
 -- A moved event, and a moved list.
-use Prim.Native.Nat.{ℕ, zero, suc, _+_, _<_, _≤_}
-use mathlib.Core.Bool.{Bool, true, false, cond}
+use Prim.Native.Nat.{ℕ, zero, suc, _+_, _<_}
 use mathlib.Core.List.{List, [], _∷_, map}
-use mathlib.Core.Logic.{_⊎_, inl, inr}
-use mathlib.Core.Path.{_≡_, refl, ap, sym, subst, _∙_}
+use mathlib.Core.Logic.{inl, inr}
+use mathlib.Core.Path.{_≡_, refl, ap, sym, _∙_}
 use native.Mathlib.Omega.{arith}
 use lib.Dec.{eqb}
 use lib.ListN.{length, getD}
 use Rattle.std.proofs.shelf.Lists.{length-map, getD-map, getD-past}
 use Rattle.std.proofs.shelf.Tests.{cond-true, cond-false, eq-eqb, ne-eqb, cases-bool, cases-eq, cases-lt, or-from}
 use Rattle.charts.specs.declared.parts.Event.{Event}
-use Rattle.charts.specs.Events.{event, no-event, environment, isMessage, Message, action, output, input}
+use Rattle.charts.specs.Events.{no-event, environment, isMessage, Message, action, output, input}
 use Rattle.charts.specs.Lists.{At, column, countOf, eventOf}
 use Rattle.charts.proofs.Messages.{message-yes}
 use Rattle.joining.specs.Moves.{risen, named, moved}

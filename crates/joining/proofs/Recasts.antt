@@ -2,8 +2,8 @@
 use Prim.Native.Nat.{ℕ, zero, suc, _+_, _<_, _≤_}
 use mathlib.Core.Bool.{Bool, true, false, cond, _&&_}
 use mathlib.Core.List.{List, [], _∷_, map}
-use mathlib.Core.Logic.{_⊎_, inl, inr}
-use mathlib.Core.Path.{_≡_, refl, ap, sym, subst, _∙_}
+use mathlib.Core.Logic.{inl, inr}
+use mathlib.Core.Path.{_≡_, refl, ap, sym, _∙_}
 use native.Mathlib.Omega.{arith}
 use lib.Dec.{eqb, ltb}
 use Rattle.std.specs.declared.option.Option.{Option}
@@ -18,7 +18,7 @@ use Rattle.std.proofs.shelf.Counted.{length-map-counting, getD-map-counting, su
 use Rattle.std.proofs.shelf.Lists.{length-map, getD-map}
 use Rattle.std.specs.shelf.Lists.{sumBy}
 use Rattle.std.proofs.shelf.Sums.{sumBy-cons}
-use Rattle.std.proofs.shelf.Tests.{cases-lt, eqb-true, eqb-false, eq-eqb, cond-true}
+use Rattle.std.proofs.shelf.Tests.{eqb-true, eq-eqb, cond-true}
 use Rattle.charts.specs.declared.parts.Event.{Event}
 use Rattle.charts.specs.Lists.{At, column, countOf, size}
 use Rattle.charts.specs.Sound.{Sound}

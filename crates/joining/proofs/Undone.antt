@@ -1,24 +1,24 @@
 -- A chart that is recast and then recast back is the same.
 use Prim.Native.Nat.{ℕ, _<_, _≤_}
-use mathlib.Core.Bool.{Bool, true, false, cond}
+use mathlib.Core.Bool.{Bool, cond}
 use mathlib.Core.List.{List, [], _∷_, map}
 use mathlib.Core.Logic.{_⊎_, inl, inr}
 use mathlib.Core.Path.{_≡_, refl, ap, ap₂, sym, subst, _∙_}
 use native.Mathlib.Omega.{arith}
-use lib.ListN.{length, getD}
+use lib.ListN.{length}
 use Rattle.std.specs.declared.option.Option.the-variants.{Some, None}
 use Rattle.std.specs.shelf.Lists.{All}
 use Rattle.std.proofs.shelf.Elements.{all-from-getD}
 use Rattle.std.proofs.shelf.Lists.{ext-getD}
 use Rattle.charts.specs.declared.parts.Event.{Event}
-use Rattle.charts.specs.Events.{environment, isMessage, no-event, Message, output, input}
+use Rattle.charts.specs.Events.{environment, no-event, Message, output, input}
 use Rattle.charts.specs.Judged.{unspoiled}
 use Rattle.charts.specs.Lists.{At, column, countOf, eventOf}
 use Rattle.charts.specs.Sound.{Sound}
 use Rattle.std.proofs.shelf.Tests.{cases-eq}
 use Rattle.joining.specs.Joined.{joinFault}
-use Rattle.joining.specs.Moves.{risen, named, moved}
-use Rattle.joining.specs.Recast.{to, from, Permutes, recast, turnsBelow, recastTrouble, recastLists}
+use Rattle.joining.specs.Moves.{named, moved}
+use Rattle.joining.specs.Recast.{to, from, Permutes, recast, recastTrouble, recastLists}
 use Rattle.joining.proofs.Moving.{named-environment, named-instance, moved-nowhere}
 use Rattle.joining.proofs.Recasts.{from-within, to-from, from-to, permutes-yes, recast-length, recast-column}
 

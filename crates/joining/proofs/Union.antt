@@ -1,5 +1,5 @@
 -- A chart that is made of the moved events of two sound charts, and of no others, is sound.
-use Prim.Native.Nat.{ℕ, suc, _+_, _<_, _≤_}
+use Prim.Native.Nat.{ℕ, _+_, _<_, _≤_}
 use mathlib.Core.List.{List}
 use mathlib.Core.Logic.{_⊎_, inl, inr}
 use mathlib.Core.Path.{_≡_, refl, ap, ap₂, sym, subst, subst₂, _∙_}
@@ -12,7 +12,7 @@ use Rattle.charts.specs.Lists.{At, size}
 use Rattle.charts.specs.Sound.{Sound}
 use Rattle.charts.specs.Span.{span}
 use Rattle.charts.proofs.Spans.{span-below}
-use Rattle.joining.specs.Moves.{risen, named, moved}
+use Rattle.joining.specs.Moves.{moved}
 use Rattle.joining.proofs.Moving.{named-environment, named-instance, risen-message, risen-action, at-instance}
 
 -- the events of L stand in J, at other places, with instances renamed by f and messages raised by s

@@ -1,5 +1,4 @@
 -- One chart after another.
-use Prim.Native.Nat.{ℕ}
 use mathlib.Core.List.{List, [], _∷_, _++_, map}
 use Rattle.charts.specs.declared.parts.Event.{Event}
 use Rattle.charts.specs.Span.{span}

@@ -1,5 +1,5 @@
 -- One chart beside another.
-use Prim.Native.Nat.{ℕ, _+_}
+use Prim.Native.Nat.{_+_}
 use mathlib.Core.List.{List, [], _++_, map}
 use lib.ListN.{length}
 use Rattle.charts.specs.declared.parts.Event.{Event}

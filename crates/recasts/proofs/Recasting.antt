@@ -15,7 +15,7 @@ use Rattle.charts.specs.declared.parts.Summary.{Summary}
 use Rattle.charts.specs.Events.{no-event}
 use Rattle.charts.specs.Judged.{Judged, summed, unspoiled}
 use Rattle.charts.specs.Lists.{column, countOf, eventOf}
-use Rattle.charts.proofs.Summaries.{Answered, summed-ok}
+use Rattle.charts.proofs.Summaries.{summed-ok}
 use Rattle.joining.specs.Joined.{joinFault}
 use Rattle.joining.specs.Moves.{moved}
 use Rattle.joining.specs.Recast.{to, from, recast, turnsBelow, recastTrouble, recastLists, Permutes, Undoes, Exactly}

@@ -1,13 +1,11 @@
 -- What the answers of a table read off its lists.
 use Prim.Native.Nat.{ℕ, max, _+_, _<_, _≤_}
-use mathlib.Core.Bool.{Bool, true, false, cond}
-use mathlib.Core.List.{List, []}
+use mathlib.Core.List.{List}
 use mathlib.Core.Path.{_≡_, refl, ap, sym, _∙_}
 use native.Mathlib.Omega.{arith}
 use lib.ListN.{length, getD, take, drop}
 use Rattle.std.specs.declared.option.Option.{Option}
 use Rattle.std.specs.declared.option.Option.the-variants.{Some, None}
-use Rattle.std.specs.declared.result.Result.{Result}
 use Rattle.std.specs.declared.result.Result.the-variants.{Ok, Err}
 use Rattle.std.specs.shelf.Lists.{sum}
 use Rattle.std.proofs.shelf.Lists.{getD-past, at-drop-more, at-drop-all}
@@ -17,7 +15,7 @@ use mathlib.Core.Logic.{inl, inr}
 use Rattle.charts.specs.declared.parts.Event.{Event}
 use Rattle.charts.specs.declared.parts.Fault.{Fault}
 use Rattle.charts.specs.declared.parts.Summary.{Summary}
-use Rattle.charts.specs.Events.{no-event, isMessage}
+use Rattle.charts.specs.Events.{no-event}
 use Rattle.charts.specs.Lists.{column, countOf, eventOf}
 use Rattle.charts.specs.Span.{above, spanOf, span}
 use Rattle.charts.specs.Judged.{summed, unspoiled}

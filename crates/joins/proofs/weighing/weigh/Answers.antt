@@ -1,5 +1,4 @@
 use borrow.Author.Needs.{needs}
-use mathlib.Core.Path.{sym}
 use Rattle.joins.proofs.Weights.{summed-small}
 use Rattle.joins.proofs.weighing.weigh.Needs as need
 

@@ -1,4 +1,3 @@
-use mathlib.Core.Path.{sym, _∙_}
 use native.Mathlib.Omega.{arith}
 use Rattle.recasts.proofs.Turning.{name-here, name-later, name-nowhere}
 use Rattle.recasts.proofs.turn.first_named.Needs as need

@@ -1,6 +1,6 @@
 use Prim.Native.Nat.{_≤_, _*_}
 use mathlib.Core.Path.{_≡_}
-use lib.ListN.{length, take}
+use lib.ListN.{take}
 use Rattle.std.specs.shelf.Lists.{sum}
 use Rattle.tables.proofs.layout.total.Given as given
 

@@ -1,12 +1,11 @@
 use Prim.Native.Nat.{ℕ}
 use native.Mathlib.Omega.{arith}
-use mathlib.Core.Bool.{true}
 use mathlib.Core.Path.{_≡_, refl, sym, subst, ap, _∙_}
 use lib.ListN.{length, getD}
 use Rattle.std.proofs.shelf.Tests.{both-ways}
 use Rattle.charts.specs.Events.{no-event, Message, isMessage}
 use Rattle.charts.proofs.Messages.{message-yes, message-from}
-use Rattle.checks.specs.Rules.{notRepeated, firstPlace}
+use Rattle.checks.specs.Rules.{notRepeated}
 use Rattle.checks.proofs.Passed.{single-none}
 use Rattle.tables.specs.Seen.{Seen}
 use Rattle.tables.proofs.Passing.{stop, onward, finish}

@@ -1,4 +1,4 @@
-use mathlib.Core.Path.{sym, _∙_, ap, _≡_}
+use mathlib.Core.Path.{sym, _∙_, ap}
 use Prim.Native.Nat.{ℕ}
 use lib.ListN.{length}
 use Rattle.checks.proofs.Exact.{checked-sound}

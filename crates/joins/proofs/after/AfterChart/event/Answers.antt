@@ -1,8 +1,8 @@
-use Prim.Native.Nat.{ℕ, _-_, _≤_, _<_}
-use mathlib.Core.Path.{_≡_, ap, ap₂, sym, _∙_}
+use Prim.Native.Nat.{ℕ, _-_}
+use mathlib.Core.Path.{ap, ap₂, _∙_}
 use native.Mathlib.Omega.{arith}
 use Rattle.charts.specs.declared.parts.Event.{Event}
-use Rattle.charts.specs.Lists.{countOf, eventOf}
+use Rattle.charts.specs.Lists.{eventOf}
 use Rattle.charts.proofs.Bounds.{number-small, span-small}
 use Rattle.charts.proofs.Summaries.{summed-ok}
 use Rattle.joining.specs.After.{after}

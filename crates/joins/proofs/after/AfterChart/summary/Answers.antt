@@ -1,5 +1,5 @@
 use Prim.Native.Nat.{ℕ, _+_}
-use mathlib.Core.Path.{_≡_, ap, _∙_}
+use mathlib.Core.Path.{ap, _∙_}
 use Rattle.charts.specs.declared.parts.Summary.{Summary}
 use Rattle.joining.specs.After.{after}
 use Rattle.joins.proofs.Following.{after-sized}

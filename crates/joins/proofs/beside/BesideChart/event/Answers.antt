@@ -1,15 +1,15 @@
 use Prim.Native.Nat.{ℕ, _+_, _-_, _≤_}
-use mathlib.Core.Path.{_≡_, ap, ap₂, sym, subst, _∙_}
+use mathlib.Core.Path.{ap, ap₂, sym, _∙_}
 use native.Mathlib.Omega.{arith}
 use lib.ListN.{length, getD}
 use mathlib.Core.List.{List}
 use Rattle.charts.specs.declared.parts.Event.{Event}
 use Rattle.charts.specs.Events.{no-event}
-use Rattle.charts.specs.Lists.{countOf, eventOf}
+use Rattle.charts.specs.Lists.{eventOf}
 use Rattle.charts.specs.Span.{span}
 use Rattle.charts.proofs.Bounds.{past-count, number-small, peer-small, span-small, width-small}
 use Rattle.joining.specs.Beside.{beside}
-use Rattle.joining.specs.Joined.{joinTrouble, joinLists}
+use Rattle.joining.specs.Joined.{joinLists}
 use Rattle.joining.specs.Moves.{moved}
 use Rattle.joins.proofs.Adjoining.{left-side, right-count, right-event}
 use Rattle.joins.proofs.Weights.{counted-whole}

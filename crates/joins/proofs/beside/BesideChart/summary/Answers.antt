@@ -1,5 +1,4 @@
 use mathlib.Core.Path.{_∙_}
-use Prim.Native.Nat.{_+_}
 use Rattle.joining.specs.Beside.{beside}
 use Rattle.joins.proofs.Adjoining.{beside-sized}
 use Rattle.joins.proofs.Weights.{weighed-ok, limited-so}

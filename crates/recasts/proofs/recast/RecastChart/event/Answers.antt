@@ -1,8 +1,8 @@
-use Prim.Native.Nat.{ℕ, _<_}
-use mathlib.Core.Path.{_≡_, ap, sym, _∙_}
+use Prim.Native.Nat.{ℕ}
+use mathlib.Core.Path.{ap, sym, _∙_}
 use native.Mathlib.Omega.{arith}
 use Rattle.charts.specs.declared.parts.Event.{Event}
-use Rattle.charts.specs.Lists.{countOf, eventOf}
+use Rattle.charts.specs.Lists.{eventOf}
 use Rattle.charts.proofs.Bounds.{past-count, peer-small}
 use Rattle.joining.specs.Moves.{moved}
 use Rattle.joining.specs.Recast.{to, recastLists}

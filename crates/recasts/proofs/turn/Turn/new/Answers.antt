@@ -1,8 +1,6 @@
-use Prim.Native.Nat.{_<_}
 use mathlib.Core.Logic.{_≢_}
 use mathlib.Core.Path.{_∙_}
 use native.Mathlib.Omega.{arith}
-use lib.ListN.{length}
 use borrow.Author.Count.{below-more}
 use Rattle.std.proofs.shelf.Lists.{getD-set-same, getD-set-other, length-set}
 use Rattle.recasts.proofs.turn.Turn.new.Needs as need

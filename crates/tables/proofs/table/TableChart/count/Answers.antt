@@ -1,5 +1,4 @@
-use mathlib.Core.Path.{_≡_, sym, _∙_}
-use native.Mathlib.Omega.{arith}
+use mathlib.Core.Path.{sym, _∙_}
 use Rattle.std.proofs.shelf.Lists.{getD-past}
 use Rattle.tables.proofs.Answering.{counted}
 use Rattle.tables.proofs.table.TableChart.count.Needs as need
