@@ -1,4 +1,6 @@
 // Measures charts of the largest sizes: tables, and runs.
+#![tactic(auto)]
+
 mod runs;
 
 use crate::runs::measure_runs;

@@ -1,4 +1,6 @@
 // Checks the chart of a table or a pile on standard input, or a poll by its size, and shows what was found.
+#![tactic(auto)]
+
 use anyhow::anyhow;
 use charts::Chart;
 use listings::{report, unreadable_line};

@@ -1,4 +1,6 @@
 // What a message sequence chart is: its events, its faults and the interface that every chart has.
+#![tactic(auto)]
+
 mod chart;
 mod kinds;
 mod parts;

@@ -1,4 +1,6 @@
 // A run's own copy of a chart, with what is fixed of each event worked out beforehand. It needs no memory but its own.
+#![tactic(auto)]
+
 mod ahead;
 mod calls;
 mod copying;

@@ -1,4 +1,6 @@
 // Tests of a run's own copies of charts.
+#![tactic(auto)]
+
 #[cfg(test)]
 mod cases;
 #[cfg(test)]

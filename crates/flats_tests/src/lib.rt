@@ -1,4 +1,6 @@
 // Tests of owned copies of charts.
+#![tactic(auto)]
+
 #[cfg(test)]
 mod cases;
 #[cfg(test)]

@@ -1,4 +1,6 @@
 // Charts joined from charts. Nothing is copied: a join asks its parts.
+#![tactic(auto)]
+
 mod after;
 mod beside;
 mod moving;

@@ -1,4 +1,6 @@
 // Tests of joined and recast charts.
+#![tactic(auto)]
+
 #[cfg(test)]
 mod cases;
 #[cfg(test)]

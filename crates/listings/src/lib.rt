@@ -1,4 +1,6 @@
 // The lines that tell of a chart, and the report on a whole chart.
+#![tactic(auto)]
+
 mod lines;
 mod reports;
 #[cfg(test)]

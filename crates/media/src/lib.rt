@@ -1,4 +1,6 @@
 // What the bus does to messages.
+#![tactic(auto)]
+
 mod free;
 mod line;
 mod medium;

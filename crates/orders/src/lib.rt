@@ -1,4 +1,6 @@
 // What may follow what: histories, orders, waits, and why one drive decides them all. Definitions and lemmas, in specs/ and proofs/.
+#![tactic(auto)]
+
 mod ring;
 mod theorems;
 

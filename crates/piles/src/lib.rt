@@ -1,4 +1,6 @@
 // Stacks of charts, made at run time by commands.
+#![tactic(auto)]
+
 mod commands;
 mod pile;
 mod reading;

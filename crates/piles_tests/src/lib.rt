@@ -1,4 +1,6 @@
 // Tests of the reading of piles.
+#![tactic(auto)]
+
 #[cfg(test)]
 mod lines;
 #[cfg(test)]

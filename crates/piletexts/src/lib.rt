@@ -1,4 +1,6 @@
 // The text form of a pile of charts: its lines, and the command on each.
+#![tactic(auto)]
+
 mod blocks;
 mod lines;
 mod parts;

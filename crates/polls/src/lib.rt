@@ -1,4 +1,6 @@
 // A panel that polls its keypads: a chart that is computed, of any size up to its limits.
+#![tactic(auto)]
+
 mod poll;
 #[cfg(test)]
 mod tests;

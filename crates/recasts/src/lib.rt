@@ -1,4 +1,6 @@
 // Charts with their instances renamed.
+#![tactic(auto)]
+
 mod recast;
 mod renaming;
 mod turn;

@@ -1,4 +1,6 @@
 // The walk along the waits of a run, and the ring that it comes to.
+#![tactic(auto)]
+
 mod parts;
 mod path;
 mod ring;

@@ -1,4 +1,6 @@
 // What may run at the positions of a run, one step, and the drive.
+#![tactic(auto)]
+
 mod advance;
 mod asking;
 mod board;

@@ -1,4 +1,6 @@
 // Runs of a chart over a medium: step, drive, restart, judge and latest.
+#![tactic(auto)]
+
 mod calls;
 mod drive;
 mod judge;

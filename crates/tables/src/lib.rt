@@ -1,4 +1,6 @@
 // Charts over tables of lengths and events.
+#![tactic(auto)]
+
 mod layout;
 mod message_places;
 mod passes;

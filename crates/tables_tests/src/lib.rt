@@ -1,4 +1,6 @@
 // Tests of the chart over a table.
+#![tactic(auto)]
+
 #[cfg(test)]
 mod cases;
 #[cfg(test)]

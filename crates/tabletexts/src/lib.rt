@@ -1,4 +1,6 @@
 // The text form of a chart's table.
+#![tactic(auto)]
+
 mod parts;
 mod reading;
 #[cfg(test)]
