@@ -6,7 +6,7 @@ use Rattle.copies.specs.Kept.{grid_lists}
 use Rattle.copies.proofs.Grids.{grid_sound, grid_width, grid_instance}
 use Rattle.copies.proofs.Partners.{output_index, passing_yes, passing_no, passing_small}
 use Rattle.copies.proofs.ahead.count_ahead.Goals as goal
-use Rattle.copies.proofs.ahead.count_ahead.Goals.{then-is-ahead, else-is-ahead}
+use Rattle.copies.proofs.ahead.count_ahead.Goals.{then-is_ahead, else-is_ahead}
 
 pub mate-requires : goal.mate-requires
 mate-requires c =
@@ -22,12 +22,12 @@ event-requires c =
     let e = ap (count_of (grid_lists g)) c.from-sender.ensures in
     omega arith
 
-pub is-ahead-requires : goal.is-ahead-requires
-is-ahead-requires c =
+pub is_ahead-requires : goal.is_ahead-requires
+is_ahead-requires c =
     let n = (grid_sound c.args.grid.now).numbers c.from-sender.result c.loop-l.l c.event.result c.event.ensures in omega arith
 
-pub overflow-add-ahead : goal.overflow-add-ahead
-overflow-add-ahead c =
+pub overflow_add-ahead : goal.overflow_add-ahead
+overflow_add-ahead c =
     let L = grid_lists c.args.grid.now in
     let a = passing_small L c.from-sender.result c.args.i c.loop-l.l c.args.k in
     let b = count_size L c.from-sender.result in
@@ -43,15 +43,15 @@ loop-l-preserved c =
     let w = grid_instance g c.args.i c.args.k c.requires.here.within in
     let wide = grid_width g in
     let inside : c.args.i < length (grid_lists g) = omega arith in
-    elim c.if-is-ahead.branch [
-      | then-is-ahead w ↦
+    elim c.if-is_ahead.branch [
+      | then-is_ahead w ↦
           w.ahead-is ∙
           passing_yes (grid_lists g) (grid_sound g) m.outputs m.inputs c.requires.noted
-          c.from-sender.result c.loop-l.l c.event.result c.args.i c.args.k c.loop-l.ahead c.event.ensures inside c.loop-l.invariant w.if-is-ahead.ensures
-      | else-is-ahead w ↦
+          c.from-sender.result c.loop-l.l c.event.result c.args.i c.args.k c.loop-l.ahead c.event.ensures inside c.loop-l.invariant w.if-is_ahead.ensures
+      | else-is_ahead w ↦
           w.ahead-is ∙
           passing_no (grid_lists g) (grid_sound g) m.outputs m.inputs c.requires.noted
-          c.from-sender.result c.loop-l.l c.event.result c.args.i c.args.k c.loop-l.ahead c.event.ensures inside c.loop-l.invariant w.if-is-ahead.ensures
+          c.from-sender.result c.loop-l.l c.event.result c.args.i c.args.k c.loop-l.ahead c.event.ensures inside c.loop-l.invariant w.if-is_ahead.ensures
     ]
 
 pub returns : goal.returns

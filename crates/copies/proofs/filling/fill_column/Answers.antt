@@ -8,8 +8,8 @@ loop-k-preserved c =
     let g = c.args.grid.now in
     let ss = c.loop-k.slots in
     let inv = c.loop-k.invariant in (
-      filled_more g c.args.i c.loop-k.k ss c.slot-of.result c.place-at.result inv.1 (omega arith) c.place-at.ensures.place c.slot-of.ensures inv.0,
-      length-set ss c.place-at.result c.slot-of.result ∙ inv.1,
+      filled_more g c.args.i c.loop-k.k ss c.slot_of.result c.place-at.result inv.1 (omega arith) c.place-at.ensures.place c.slot_of.ensures inv.0,
+      length-set ss c.place-at.result c.slot_of.result ∙ inv.1,
     )
 
 pub returns : goal.returns

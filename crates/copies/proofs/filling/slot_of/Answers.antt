@@ -13,11 +13,11 @@ returns-in-2 c =
     let g = c.args.grid.now in
     let m = c.args.messages.now in
     slot_input (grid_lists g) (grid_sound g) m.outputs m.inputs c.requires.noted c.args.i c.args.k c.event-event.result c.mate-mate.result
-    c.event-event.ensures c.if-not-is-between.ensures c.mate-mate.ensures c.count-ahead-ahead.result c.in-2.is c.count-ahead-ahead.ensures
+    c.event-event.ensures c.if-not-is_between.ensures c.mate-mate.ensures c.count_ahead-ahead.result c.in-2.is c.count_ahead-ahead.ensures
 
-pub returns-in-default : goal.returns-in-default
-returns-in-default c =
+pub returns-in_default : goal.returns-in_default
+returns-in_default c =
     let g = c.args.grid.now in
     let m = c.args.messages.now in
     slot_output (grid_lists g) (grid_sound g) m.outputs m.inputs c.requires.noted c.args.i c.args.k c.event-event.result c.mate-mate.result
-    c.event-event.ensures c.if-not-is-between.ensures c.mate-mate.ensures (λ z. omega arith)
+    c.event-event.ensures c.if-not-is_between.ensures c.mate-mate.ensures (λ z. omega arith)

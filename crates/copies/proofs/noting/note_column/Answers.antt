@@ -5,8 +5,8 @@ use Rattle.copies.proofs.Grids.{grid_sound}
 use Rattle.copies.proofs.Notes.{noted_more, noted_column}
 use Rattle.copies.proofs.noting.note_column.Goals as goal
 
-pub overflow-cast-k : goal.overflow-cast-k
-overflow-cast-k c =
+pub overflow_cast-k : goal.overflow_cast-k
+overflow_cast-k c =
     let g = c.args.grid.now in
     let a = count_size (grid_lists g) c.args.i in
     let b = (grid_sound g).few_events in

@@ -6,7 +6,7 @@ use Rattle.flats.proofs.copies.push_events.Goals as goal
 pub loop-k-preserved : goal.loop-k-preserved
 loop-k-preserved g c =
     let es = column (g.C.Chart.lists c.args.chart.now) c.args.i in
-    event_more (vec_items c.args.events.now) (vec_items c.loop-k.events) (vec_items c.push.new.self) es c.event.result c.loop-k.k (omega arith) c.loop-k.invariant c.event.ensures c.in-ok-push.ensures.items
+    event_more (vec_items c.args.events.now) (vec_items c.loop-k.events) (vec_items c.push.new.self) es c.event.result c.loop-k.k (omega arith) c.loop-k.invariant c.event.ensures c.in_ok-push.ensures.items
 
 pub returns : goal.returns
 returns g c =

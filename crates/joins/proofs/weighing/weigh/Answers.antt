@@ -7,7 +7,7 @@ returns g c =
     record {
       value = search rules;
       small = (
-        summed_small _ _ c.in-ok-first.first (g.A.Chart.sound c.args.a.now) c.in-ok-first.ensures,
-        summed_small _ _ c.in-ok-second.second (g.B.Chart.sound c.args.b.now) c.in-ok-second.ensures,
+        summed_small _ _ c.in_ok-first.first (g.A.Chart.sound c.args.a.now) c.in_ok-first.ensures,
+        summed_small _ _ c.in_ok-second.second (g.B.Chart.sound c.args.b.now) c.in_ok-second.ensures,
       );
     }

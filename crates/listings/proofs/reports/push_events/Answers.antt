@@ -10,9 +10,9 @@ pub loop-k-preserved : goal.loop-k-preserved
 loop-k-preserved g c =
     let i = c.args.i in
     let es = column (g.C.Chart.lists c.args.chart.now) i in
-    let text = c.in-ok-text.ensures in
-    let wrote = c.in-ok-push-line.ensures in
-    write_more (λ k e. line (event_line i k e)) (event_lines i) (λ k. refl) (λ k e es. refl) _ _ (string_bytes c.push-line.new.out) c.loop-k.k es no_event (search rules) c.loop-k.invariant (cc)
+    let text = c.in_ok-text.ensures in
+    let wrote = c.in_ok-push_line.ensures in
+    write_more (λ k e. line (event_line i k e)) (event_lines i) (λ k. refl) (λ k e es. refl) _ _ (string_bytes c.push_line.new.out) c.loop-k.k es no_event (search rules) c.loop-k.invariant (cc)
 
 pub returns : goal.returns
 returns g c =

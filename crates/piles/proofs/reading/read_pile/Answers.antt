@@ -5,21 +5,21 @@ use Rattle.piles.specs.Stack.{stack_of}
 use Rattle.piles.proofs.Following.{applied_leaves, line_passed, line_unknown, line_told, line_followed, ends_empty, ends_full}
 use Rattle.piles.proofs.reading.read_pile.Goals as goal
 
-pub returns-in-default-read-command : goal.returns-in-default-read-command
-returns-in-default-read-command c =
+pub returns-in_default-read_command : goal.returns-in_default-read_command
+returns-in_default-read_command c =
     let took = c.in-Some.ensures in
     c.loop-line.invariant (Err c.number.result)
     (line_unknown (stack_of (vec_items c.loop-line.pile.charts)) c.loop-line.lines.number c.next.new.self.number
     (lines_of c.loop-line.lines.rest.now) (lines_of c.next.new.self.rest.now) c.in-Some.line.now took.0 took.1
-    c.number.result c.number.ensures.value (omega (arith, false-eqb _ 0 c.if-not-is-empty.ensures)) c.in-default-read-command.ensures)
+    c.number.result c.number.ensures.value (omega (arith, false-eqb _ 0 c.if-not-is_empty.ensures)) c.in_default-read_command.ensures)
 
 pub loop-line-smaller-in-Continue· : goal.loop-line-smaller-in-Continue·
 loop-line-smaller-in-Continue· c =
     let took = c.in-Some.ensures in
-    let fewer = applied_leaves c.in-Some-read-command.command
+    let fewer = applied_leaves c.in-Some-read_command.command
     (standing (stack_of (vec_items c.loop-line.pile.charts)) c.next.new.self.number (lines_of c.next.new.self.rest.now))
     (standing (stack_of (vec_items c.apply.new.self.charts)) c.apply.new.lines.number (lines_of c.apply.new.lines.rest.now))
-    c.in-ok-apply.ensures in
+    c.in_ok-apply.ensures in
     omega (arith, ap length took.0)
 
 pub loop-line-preserved-in-Continue· : goal.loop-line-preserved-in-Continue·
@@ -28,19 +28,19 @@ loop-line-preserved-in-Continue· c o p =
     c.loop-line.invariant o
     (line_followed (stack_of (vec_items c.loop-line.pile.charts)) c.loop-line.lines.number c.next.new.self.number
     (lines_of c.loop-line.lines.rest.now) (lines_of c.next.new.self.rest.now) c.in-Some.line.now took.0 took.1
-    c.in-Some-read-command.command c.in-Some-read-command.ensures
+    c.in-Some-read_command.command c.in-Some-read_command.ensures
     (standing (stack_of (vec_items c.apply.new.self.charts)) c.apply.new.lines.number (lines_of c.apply.new.lines.rest.now))
-    c.in-ok-apply.ensures o p)
+    c.in_ok-apply.ensures o p)
 
-pub returns-in-err-apply : goal.returns-in-err-apply
-returns-in-err-apply c =
+pub returns-in_err-apply : goal.returns-in_err-apply
+returns-in_err-apply c =
     let took = c.in-Some.ensures in
     line_told (stack_of (vec_items c.loop-line.pile.charts)) c.loop-line.lines.number c.next.new.self.number
     (lines_of c.loop-line.lines.rest.now) (lines_of c.next.new.self.rest.now) c.in-Some.line.now took.0 took.1
-    c.in-Some-read-command.command c.in-Some-read-command.ensures
+    c.in-Some-read_command.command c.in-Some-read_command.ensures
     _
     (standing (stack_of (vec_items c.apply.new.self.charts)) c.apply.new.lines.number (lines_of c.apply.new.lines.rest.now))
-    _ c.in-err-apply.field-0.0 c.from-residual.result c.loop-line.invariant c.in-err-apply.ensures (search rules)
+    _ c.in_err-apply.field-0.0 c.from-residual.result c.loop-line.invariant c.in_err-apply.ensures (search rules)
 
 pub loop-line-preserved : goal.loop-line-preserved
 loop-line-preserved c o p =
@@ -48,17 +48,17 @@ loop-line-preserved c o p =
     c.loop-line.invariant o
     (line_passed (stack_of (vec_items c.loop-line.pile.charts)) c.loop-line.lines.number c.next.new.self.number
     (lines_of c.loop-line.lines.rest.now) (lines_of c.next.new.self.rest.now) c.in-Some.line.now took.0 took.1
-    (true-eqb _ 0 c.if-not-is-empty.ensures) o p)
+    (true-eqb _ 0 c.if-not-is_empty.ensures) o p)
 
-pub returns-then-is-none : goal.returns-then-is-none
-returns-then-is-none c =
-    let done = c.in-default.ensures in
-    c.loop-line.invariant (Err (c.number-then-is-none.result + 1))
-    (ends_empty (stack_of (vec_items c.loop-line.pile.charts)) c.top.result c.loop-line.lines.number c.number-then-is-none.result
-    (lines_of c.loop-line.lines.rest.now) done.0 (c.number-then-is-none.ensures.value ∙ ap (λ x. x.number) done.1) c.top.ensures c.if-is-none.ensures)
+pub returns-then-is_none : goal.returns-then-is_none
+returns-then-is_none c =
+    let done = c.in_default.ensures in
+    c.loop-line.invariant (Err (c.number-then-is_none.result + 1))
+    (ends_empty (stack_of (vec_items c.loop-line.pile.charts)) c.top.result c.loop-line.lines.number c.number-then-is_none.result
+    (lines_of c.loop-line.lines.rest.now) done.0 (c.number-then-is_none.ensures.value ∙ ap (λ x. x.number) done.1) c.top.ensures c.if-is_none.ensures)
 
 pub returns : goal.returns
 returns c =
     c.loop-line.invariant (Ok (stack_of (vec_items c.loop-line.pile.charts)))
     (ends_full (stack_of (vec_items c.loop-line.pile.charts)) c.top.result c.loop-line.lines.number (lines_of c.loop-line.lines.rest.now)
-    c.in-default.ensures.0 c.top.ensures c.if-is-none.ensures)
+    c.in_default.ensures.0 c.top.ensures c.if-is_none.ensures)

@@ -9,4 +9,4 @@ loop-rest-init c = named_none _
 pub loop-rest-preserved : goal.loop-rest-preserved
 loop-rest-preserved c =
     let next = ap (pieces_after 32) c.in-Some.is ∙ c.cut.ensures.value in
-    named_more _ _ _ _ _ _ _ c.loop-rest.invariant next c.if-given-eq32.false c.in-ok-name.ensures.value
+    named_more _ _ _ _ _ _ _ c.loop-rest.invariant next c.if-given-eq32.false c.in_ok-name.ensures.value

@@ -8,8 +8,8 @@ use Rattle.rings.specs.Walks.{waits_on, walk_from}
 use Rattle.rings.proofs.Walks.{Turns, turns_start, turns_over, turns_outside, turns_twice, turns_short, turns_on}
 use Rattle.rings.proofs.walk.walk.Goals as goal
 
-pub overflow-add-most : goal.overflow-add-most
-overflow-add-most c = let few = (kept_sound c.args.board.now.copy).few_instances in omega arith
+pub overflow_add-most : goal.overflow_add-most
+overflow_add-most c = let few = (kept_sound c.args.board.now.copy).few_instances in omega arith
 
 pub turns-init : goal.turns-init
 turns-init c =
@@ -28,8 +28,8 @@ returns-then-x-width c =
     c.none.ensures
     ∙ turns_outside (waits_on L p) (length L) (walk_from L p c.args.from) t.counter (met_by t.path) t.x t.invariant (omega arith) (omega arith)
 
-pub overflow-cast-x : goal.overflow-cast-x
-overflow-cast-x c = let few = (kept_sound c.args.board.now.copy).few_instances in omega arith
+pub overflow_cast-x : goal.overflow_cast-x
+overflow_cast-x c = let few = (kept_sound c.args.board.now.copy).few_instances in omega arith
 
 pub returns-in-Some : goal.returns-in-Some
 returns-in-Some c =
@@ -37,7 +37,7 @@ returns-in-Some c =
     let L = kept b.copy in
     let p = place_of b.rows.table in
     let t = c.turns in
-    c.ring-from.ensures
+    c.ring_from.ensures
     ∙ turns_twice (waits_on L p) (length L) (walk_from L p c.args.from) t.counter (met_by t.path) t.x t.invariant (omega arith) (omega arith) c.in-Some.start
     (subst (λ (met : List ℕ). FirstAt met t.x c.in-Some.start) c.met.ensures c.in-Some.ensures)
 
@@ -47,7 +47,7 @@ meet-x-requires c =
     let L = kept b.copy in
     let p = place_of b.rows.table in
     let t = c.turns in
-    let new = subst (λ (met : List ℕ). Nowhere met t.x) c.met.ensures c.in-default.ensures in
+    let new = subst (λ (met : List ℕ). Nowhere met t.x) c.met.ensures c.in_default.ensures in
     let less = turns_short (waits_on L p) (length L) (walk_from L p c.args.from) t.counter (met_by t.path) t.x t.invariant (omega arith) (omega arith) new in
     let few = (kept_sound b.copy).few_instances in
     let len = length-take-le t.path.len t.path.cells (let s = t.path.sized in let l = t.path.short in omega arith) in
@@ -60,7 +60,7 @@ turns-preserved c =
     let p = place_of b.rows.table in
     let t = c.turns in
     let whole = walk_from L p c.args.from in
-    let new = subst (λ (met : List ℕ). Nowhere met t.x) c.met.ensures c.in-default.ensures in
+    let new = subst (λ (met : List ℕ). Nowhere met t.x) c.met.ensures c.in_default.ensures in
     let on = turns_on (waits_on L p) (length L) whole t.counter (met_by t.path) t.x t.invariant (omega arith) (omega arith) new in
     let pushed = subst (λ (met : List ℕ). Turns (waits_on L p) (length L) whole (t.counter + 1) met (waits_on L p t.x)) (sym c.meet-x.ensures.met) on in
     subst (Turns (waits_on L p) (length L) whole (t.counter + 1) (met_by c.meet-x.new.path)) (sym c.meet-x.ensures.next) pushed

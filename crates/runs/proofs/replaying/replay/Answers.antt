@@ -23,7 +23,7 @@ pub loop-turn-preserved : goal.loop-turn-preserved
 loop-turn-preserved g c =
     let r = c.new-run.result in
     let l = c.loop-turn in
-    let k = c.take-turn in
+    let k = c.take_turn in
     let x = get_or l.turns l.turn-index c.turn-item.result in (
       k.ensures.keeps.0 ∙ l.invariant.0,
       k.ensures.keeps.1 ∙ l.invariant.1,

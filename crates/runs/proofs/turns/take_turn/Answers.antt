@@ -11,8 +11,8 @@ returns g c =
     let L = kept b.copy in
     let M = g.M.Medium.carries c.args.run.now.medium in
     let x = c.args.turn.now in
-    let m = c.make-call-answer in
-    let was = c.as-mut-slice.ensures.value in
+    let m = c.make_call-answer in
+    let was = c.as_mut_slice.ensures.value in
     let long : length m.new.buffer ≡ x.buffer.len = m.auto.buffer ∙ ap length was ∙ sym x.buffer.ok.0 in
     let is = with_items_is x.buffer m.new.buffer long in
     let rows = m.new.run.board.rows.table in
@@ -25,6 +25,6 @@ returns g c =
             noted = refl;
             made =
                 subst (λ (out : List ℕ). MakesCall b.copy.fault M L h x.call out m.result (vec_items (with_items x.buffer m.new.buffer)) rows) was
-                (subst (λ (out : List ℕ). MakesCall b.copy.fault M L h x.call c.as-mut-slice.result.now m.result out rows) (sym is) (m.ensures.makes h s));
+                (subst (λ (out : List ℕ). MakesCall b.copy.fault M L h x.call c.as_mut_slice.result.now m.result out rows) (sym is) (m.ensures.makes h s));
           };
     }

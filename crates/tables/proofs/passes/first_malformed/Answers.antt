@@ -11,7 +11,7 @@ returns-in-Some c =
 pub loop-k-preserved : goal.loop-k-preserved
 loop-k-preserved c =
     onward (well_formed (length c.args.lengths.now)) c.args.lengths.now c.args.events.now c.loop-k.k c.loop-k.invariant
-    c.loop-k-test.true (sym (c.in-default.ensures c.loop-k.k))
+    c.loop-k-test.true (sym (c.in_default.ensures c.loop-k.k))
 
 pub returns : goal.returns
 returns c =

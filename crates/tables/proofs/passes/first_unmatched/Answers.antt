@@ -5,10 +5,10 @@ use Rattle.tables.proofs.Passing.{stop, onward, finish}
 use Rattle.tables.proofs.Rows.{small_number}
 use Rattle.tables.proofs.Matching.{match_action, match_found, match_missing}
 use Rattle.tables.proofs.passes.first_unmatched.Goals as goal
-use Rattle.tables.proofs.passes.first_unmatched.Goals.{else_is_message_via_then_is_message+else_not_has_match, else-is-message-via-else-is-message}
+use Rattle.tables.proofs.passes.first_unmatched.Goals.{else_is_message_via_then_is_message+else_not_has_match, else-is_message-via-else-is_message}
 
-pub has-match-requires : goal.has-match-requires
-has-match-requires c =
+pub has_match-requires : goal.has_match-requires
+has_match-requires c =
     record {
       short = c.requires.short;
       within = c.loop-k-test.true;
@@ -16,13 +16,13 @@ has-match-requires c =
       seen = c.requires.seen;
     }
 
-pub returns-then-not-has-match : goal.returns-then-not-has-match
-returns-then-not-has-match c =
+pub returns-then-not-has_match : goal.returns-then-not-has_match
+returns-then-not-has_match c =
     let ns = c.args.lengths.now in
     let es = c.args.events.now in
     let k = c.loop-k.k in
     stop (matched ns es) ns es k c.loop-k.invariant c.blame.result 18 c.loop-k-test.true c.blame.ensures
-    (match_missing ns es k (get_or es k no_event) (sym c.if-is-message.ensures) (sym c.if-not-has-match.ensures))
+    (match_missing ns es k (get_or es k no_event) (sym c.if-is_message.ensures) (sym c.if-not-has_match.ensures))
 
 pub loop-k-preserved : goal.loop-k-preserved
 loop-k-preserved c =
@@ -30,9 +30,9 @@ loop-k-preserved c =
     let es = c.args.events.now in
     let k = c.loop-k.k in
     onward (matched ns es) ns es k c.loop-k.invariant c.loop-k-test.true
-    (elim c.else-is-message.branch [
-      | else_is_message_via_then_is_message+else_not_has_match w ↦ match_found ns es k (get_or es k no_event) (sym w.if-not-has-match.ensures)
-      | else-is-message-via-else-is-message w ↦ match_action ns es k (get_or es k no_event) (sym w.if-is-message.ensures)
+    (elim c.else-is_message.branch [
+      | else_is_message_via_then_is_message+else_not_has_match w ↦ match_found ns es k (get_or es k no_event) (sym w.if-not-has_match.ensures)
+      | else-is_message-via-else-is_message w ↦ match_action ns es k (get_or es k no_event) (sym w.if-is_message.ensures)
     ])
 
 pub returns : goal.returns

@@ -9,7 +9,7 @@ use Rattle.tables.proofs.Passing.{stop, onward, finish}
 use Rattle.tables.proofs.Rows.{small_number, second, newcomer, seen_put, seen_skip, seen_same, row_empty}
 use Rattle.tables.specs.declared.message_places.MessagePlaces.{MessagePlaces}
 use Rattle.tables.proofs.passes.index_messages.Goals as goal
-use Rattle.tables.proofs.passes.index_messages.Goals.{then_is_message+else_find_ne_NOWHERE, else-is-message}
+use Rattle.tables.proofs.passes.index_messages.Goals.{then_is_message+else_find_ne_NOWHERE, else-is_message}
 
 pub loop-k-init : goal.loop-k-init
 loop-k-init c = (
@@ -34,7 +34,7 @@ returns-then-find-ne-NOWHERE c =
     let k = c.loop-k.k in
     let h = c.loop-k-test.true in
     let broken = second es k c.loop-k.places.outputs c.loop-k.places.inputs c.loop-k.invariant.1 c.find.result
-    (small_number ns es k c.requires.formed h) (sym c.if-is-message.ensures) c.find.ensures c.if-find-ne-NOWHERE.true in
+    (small_number ns es k c.requires.formed h) (sym c.if-is_message.ensures) c.find.ensures c.if-find-ne-NOWHERE.true in
     record { repeats = sym (stop (not_repeated es) ns es k c.loop-k.invariant.0 c.blame.result 17 h c.blame.ensures broken); places = tt }
 
 pub loop-k-preserved : goal.loop-k-preserved
@@ -45,10 +45,10 @@ loop-k-preserved c =
     let h = c.loop-k-test.true in
     let e = get_or es k no_event in
     let p = c.loop-k.places in
-    elim c.if-is-message.branch [
+    elim c.if-is_message.branch [
       | then_is_message+else_find_ne_NOWHERE w ↦
           let n = small_number ns es k c.requires.formed h in
-          let yes = sym w.if-is-message.ensures in
+          let yes = sym w.if-is_message.ensures in
           let short = c.requires.short in
           let new = newcomer es k p.outputs p.inputs c.loop-k.invariant.1 w.find.result n yes w.find.ensures (omega arith) w.if-find-ne-NOWHERE.false in
           let put = seen_put es k p.outputs p.inputs c.loop-k.invariant.1 h p.all_outputs p.all_inputs (message_from e yes) n new in (
@@ -56,8 +56,8 @@ loop-k-preserved c =
             seen_same (ap (λ (x : MessagePlaces). x.outputs) w.places-is ∙ w.put.ensures.outputs) (ap (λ (x : MessagePlaces). x.inputs) w.places-is ∙ w.put.ensures.inputs) put,
             omega arith,
           )
-      | else-is-message w ↦
-          let other : Message e → ⊥ = λ m. both_ways (is_message e) (sym w.if-is-message.ensures) (message_yes e m) in (
+      | else-is_message w ↦
+          let other : Message e → ⊥ = λ m. both_ways (is_message e) (sym w.if-is_message.ensures) (message_yes e m) in (
             onward (not_repeated es) ns es k c.loop-k.invariant.0 h (single_none es k e (λ m. absurd (other m))),
             seen_same (ap (λ (x : MessagePlaces). x.outputs) w.places-is) (ap (λ (x : MessagePlaces). x.inputs) w.places-is) (seen_skip es k p.outputs p.inputs c.loop-k.invariant.1 h other),
             omega arith,

@@ -18,6 +18,6 @@ returns-in-None c =
     let es = c.args.events.now in
     let measured : ℕ → Result Summary Fault = λ n. Ok (record { width = length ns; events = length es; span = n }) in
     record {
-      judged = ap measured c.span-of.ensures ∙ sized ns es c.in-None.ensures;
+      judged = ap measured c.span_of.ensures ∙ sized ns es c.in-None.ensures;
       sound = checked_sound ns es (sym c.in-None.ensures);
     }

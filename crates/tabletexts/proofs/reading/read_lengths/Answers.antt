@@ -6,4 +6,4 @@ use Rattle.tabletexts.proofs.reading.read_lengths.Goals as goal
 pub loop-rest-preserved : goal.loop-rest-preserved
 loop-rest-preserved c =
     let next = ap (pieces_after 32) c.in-Some.is ∙ c.cut.ensures.value in
-    lengths_more _ _ _ (vec_items c.push.new.self) _ _ _ c.loop-rest.invariant next c.in-Some-read-number.ensures.value c.in-ok-push.ensures.items
+    lengths_more _ _ _ (vec_items c.push.new.self) _ _ _ c.loop-rest.invariant next c.in-Some-read_number.ensures.value c.in_ok-push.ensures.items

@@ -2,8 +2,8 @@ use Rattle.std.proofs.Common.{arith, rules}
 use Rattle.tabletexts.proofs.Digits.{no_digit, digit_more, too_large, digits_all}
 use Rattle.tabletexts.proofs.reading.read_number.Goals as goal
 
-pub returns-then-not-is-ascii-digit : goal.returns-then-not-is-ascii-digit
-returns-then-not-is-ascii-digit c = search (rules, no_digit)
+pub returns-then-not-is_ascii_digit : goal.returns-then-not-is_ascii_digit
+returns-then-not-is_ascii_digit c = search (rules, no_digit)
 
 pub returns-then-value-from : goal.returns-then-value-from
 returns-then-value-from c =

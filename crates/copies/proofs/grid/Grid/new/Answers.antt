@@ -2,8 +2,8 @@ use Rattle.std.proofs.Common.{◌≡◌, ℕ, subst, arith}
 use Rattle.copies.proofs.Begun.{Begun, judged_sound, begun_room, begun_more, begun_faultless, begun_lists}
 use Rattle.copies.proofs.grid.Grid.new.Goals as goal
 
-pub offset-bounds-columns-i : goal.offset-bounds-columns-i
-offset-bounds-columns-i g c =
+pub offset_bounds-columns-i : goal.offset_bounds-columns-i
+offset_bounds-columns-i g c =
     let x = c.args.chart.now in
     let few = (judged_sound (g.C.Chart.trouble x) (g.C.Chart.lists x) (g.C.Chart.sound x)).few_instances in
     omega arith
@@ -14,28 +14,28 @@ bounds-columns-i g c =
     let few = (judged_sound (g.C.Chart.trouble x) (g.C.Chart.lists x) (g.C.Chart.sound x)).few_instances in
     omega arith
 
-pub overflow-cast-columns : goal.overflow-cast-columns
-overflow-cast-columns g c =
+pub overflow_cast-columns : goal.overflow_cast-columns
+overflow_cast-columns g c =
     let x = c.args.chart.now in
     let room = begun_room c.loop-i.columns c.loop-i.slots c.loop-i.i c.loop-i.events
     (g.C.Chart.lists x) (omega arith) c.loop-i.invariant (g.C.Chart.trouble x) (g.C.Chart.sound x) in
     omega arith
 
-pub overflow-cast-columns-in-loop-i : goal.overflow-cast-columns-in-loop-i
-overflow-cast-columns-in-loop-i g c =
+pub overflow_cast-columns-in-loop-i : goal.overflow_cast-columns-in-loop-i
+overflow_cast-columns-in-loop-i g c =
     let x = c.args.chart.now in
     let room = begun_room c.loop-i.columns c.loop-i.slots c.loop-i.i c.loop-i.events
     (g.C.Chart.lists x) (omega arith) c.loop-i.invariant (g.C.Chart.trouble x) (g.C.Chart.sound x) in
     omega arith
 
-pub copy-column-requires : goal.copy-column-requires
-copy-column-requires g c =
+pub copy_column-requires : goal.copy_column-requires
+copy_column-requires g c =
     let x = c.args.chart.now in
     begun_room c.loop-i.columns c.loop-i.slots c.loop-i.i c.loop-i.events
     (g.C.Chart.lists x) (omega arith) c.loop-i.invariant (g.C.Chart.trouble x) (g.C.Chart.sound x)
 
-pub overflow-add-events : goal.overflow-add-events
-overflow-add-events g c =
+pub overflow_add-events : goal.overflow_add-events
+overflow_add-events g c =
     let x = c.args.chart.now in
     let room = begun_room c.loop-i.columns c.loop-i.slots c.loop-i.i c.loop-i.events
     (g.C.Chart.lists x) (omega arith) c.loop-i.invariant (g.C.Chart.trouble x) (g.C.Chart.sound x) in
@@ -47,10 +47,10 @@ loop-i-preserved g c =
     let L = g.C.Chart.lists x in
     let few = (judged_sound (g.C.Chart.trouble x) L (g.C.Chart.sound x)).few_instances in
     begun_more c.loop-i.columns c.loop-i.slots c.loop-i.i c.loop-i.events L (omega arith) c.loop-i.invariant c.count-count.result c.count-count.ensures few
-    c.copy-column.new.slots c.copy-column.array_long c.copy-column.ensures
+    c.copy_column.new.slots c.copy_column.array_long c.copy_column.ensures
 
-pub invariant-of-result : goal.invariant-of-result
-invariant-of-result g c =
+pub invariant_of-result : goal.invariant_of-result
+invariant_of-result g c =
     let x = c.args.chart.now in
     let L = g.C.Chart.lists x in
     let s = judged_sound (g.C.Chart.trouble x) L (g.C.Chart.sound x) in

@@ -15,18 +15,18 @@ held x i s c e h is =
     let cs = vec_items x.columns in
     holds cs (vec_items x.events) i x.verdict s c e x.placed x.judged (omega arith) (get_or_read cs i c (omega arith) is no_column)
 
-pub overflow-add-result : goal.overflow-add-result
-overflow-add-result c =
+pub overflow_add-result : goal.overflow_add-result
+overflow_add-result c =
     let h = held c.args.self.now c.args.i c.in-Ok.field-0 c.index.result.now c.in-Ok.is (omega arith) c.index.ensures in
     omega arith
 
-pub offset-bounds-as-slice-start : goal.offset-bounds-as-slice-start
-offset-bounds-as-slice-start c =
+pub offset_bounds-as_slice-start : goal.offset_bounds-as_slice-start
+offset_bounds-as_slice-start c =
     let h = held c.args.self.now c.args.i c.in-Ok.field-0 c.index.result.now c.in-Ok.is (omega arith) c.index.ensures in
     omega arith
 
-pub slice-bounds-result-end : goal.slice-bounds-result-end
-slice-bounds-result-end c =
+pub slice_bounds-result-end : goal.slice_bounds-result-end
+slice_bounds-result-end c =
     let h = held c.args.self.now c.args.i c.in-Ok.field-0 c.index.result.now c.in-Ok.is (omega arith) c.index.ensures in
     omega arith
 
@@ -36,7 +36,7 @@ returns-in-Ok c =
     let start = c.index.result.now.start in
     let count = c.index.result.now.count in
     let n : start + count - start ≡ count = omega arith in
-    ap (λ (x : ℕ). take x (drop start c.as-slice.result.now)) n ∙ ap (λ (es : List Event). take count (drop start es)) c.as-slice.ensures.value ∙ h.has
+    ap (λ (x : ℕ). take x (drop start c.as_slice.result.now)) n ∙ ap (λ (es : List Event). take count (drop start es)) c.as_slice.ensures.value ∙ h.has
 
 pub returns-in-Ok-2 : goal.returns-in-Ok-2
 returns-in-Ok-2 c =

@@ -11,10 +11,10 @@ loop-i-preserved g c =
     let L = g.C.Chart.lists c.args.chart.now in
     let n = c.loop-i.events.ok.0 in
     let e = c.new.ensures in
-    firsts_more _ _ (vec_items c.loop-i.events) _ c.new.result c.loop-i.i L (omega arith) c.loop-i.invariant (cc) c.in-ok-push.ensures.items c.in-ok-push-events.ensures
+    firsts_more _ _ (vec_items c.loop-i.events) _ c.new.result c.loop-i.i L (omega arith) c.loop-i.invariant (cc) c.in_ok-push.ensures.items c.in_ok-push_events.ensures
 
-pub invariant-of-result : goal.invariant-of-result
-invariant-of-result g c =
+pub invariant_of-result : goal.invariant_of-result
+invariant_of-result g c =
     let x = c.args.chart.now in
     let same = copies c.summary-verdict.result (vec_items c.loop-i.columns) (vec_items c.loop-i.events) c.loop-i.i (g.C.Chart.trouble x) (g.C.Chart.lists x) (g.C.Chart.sound x) c.summary-verdict.ensures (omega arith) c.loop-i.invariant in
     (c.loop-i.invariant.placed, (copied_verdict _ _ _ _ _ same c.summary-verdict.ensures, tt))

@@ -5,4 +5,4 @@ use Rattle.flats.proofs.flat.FlatChart.event.Goals as goal
 
 pub returns-else-k-events : goal.returns-else-k-events
 returns-else-k-events c =
-    sym (get_or_past c.events-of-events.result.now c.args.k no_event (omega arith)) ∙ ap (λ es. get_or es c.args.k no_event) c.events-of-events.ensures
+    sym (get_or_past c.events_of-events.result.now c.args.k no_event (omega arith)) ∙ ap (λ es. get_or es c.args.k no_event) c.events_of-events.ensures

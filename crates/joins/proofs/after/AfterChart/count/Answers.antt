@@ -6,8 +6,8 @@ use Rattle.joining.specs.Joined.{join_trouble, join_lists}
 use Rattle.joins.proofs.Following.{after_counted}
 use Rattle.joins.proofs.after.AfterChart.count.Goals as goal
 
-pub overflow-add-result : goal.overflow-add-result
-overflow-add-result g c =
+pub overflow_add-result : goal.overflow_add-result
+overflow_add-result g c =
     let t = c.args.self.now in
     let a = count_small (g.A.Chart.lists t.first) c.args.i (g.A.Chart.trouble t.first) (g.A.Chart.sound t.first) in
     let b = count_small (g.B.Chart.lists t.second) c.args.i (g.B.Chart.trouble t.second) (g.B.Chart.sound t.second) in

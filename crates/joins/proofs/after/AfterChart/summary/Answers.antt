@@ -12,7 +12,7 @@ returns g c =
     let h = g.B.Chart.trouble t.second in
     let L = g.A.Chart.lists t.first in
     let K = g.B.Chart.lists t.second in
-    let p = c.in-ok-pair.pair in
-    let b = weighed_ok f h L K p c.in-ok-pair.ensures.value in
+    let p = c.in_ok-pair.pair in
+    let b = weighed_ok f h L K p c.in_ok-pair.ensures.value in
     let wide : ℕ → Summary = λ w. record { width = w; events = p.first.events + p.second.events; span = p.first.span + p.second.span } in
     c.limited.ensures ∙ limited_so 3 f h (after L K) (wide c.max.result) b.first_whole b.second_whole (ap wide c.max.ensures ∙ after_sized f h L K p b)

@@ -11,6 +11,6 @@ returns g c =
     let h = g.B.Chart.trouble t.right in
     let L = g.A.Chart.lists t.left in
     let K = g.B.Chart.lists t.right in
-    let p = c.in-ok-pair.pair in
-    let b = weighed_ok f h L K p c.in-ok-pair.ensures.value in
+    let p = c.in_ok-pair.pair in
+    let b = weighed_ok f h L K p c.in_ok-pair.ensures.value in
     c.limited.ensures ∙ limited_so 4 f h (beside L K) _ b.first_whole b.second_whole (beside_sized f h L K p b)

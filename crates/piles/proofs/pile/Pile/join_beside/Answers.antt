@@ -10,6 +10,6 @@ returns c =
     let S₂ = stack_of (vec_items c.pop-2.new.self.charts) in
     let j = c.new.result in
     two_joined (stack_of (vec_items c.args.self.now.charts)) c.args.line (stack_of (vec_items c.push.new.self.charts)) c.push.result beside_meaning S₁ S₂ (flat_meaning j.left) (flat_meaning j.right)
-    (c.in-ok-right.ensures ∙ ap (λ x. flat_meaning x.right ∷ S₁) (sym c.new.ensures))
-    (c.in-ok-left.ensures ∙ ap (λ x. flat_meaning x.left ∷ S₂) (sym c.new.ensures))
+    (c.in_ok-right.ensures ∙ ap (λ x. flat_meaning x.right ∷ S₁) (sym c.new.ensures))
+    (c.in_ok-left.ensures ∙ ap (λ x. flat_meaning x.left ∷ S₂) (sym c.new.ensures))
     c.push.ensures

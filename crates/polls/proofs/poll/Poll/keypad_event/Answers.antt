@@ -7,7 +7,7 @@ returns-in-0 c =
     c.message.ensures
     ∙ keypad_even c.args.self.now.keypads c.args.self.now.rounds c.args.keypad c.args.k _ _ (omega arith) (omega arith) (omega arith) (omega arith)
 
-pub returns-in-default : goal.returns-in-default
-returns-in-default c =
-    c.message-in-default.ensures
+pub returns-in_default : goal.returns-in_default
+returns-in_default c =
+    c.message-in_default.ensures
     ∙ keypad_odd c.args.self.now.keypads c.args.self.now.rounds c.args.keypad c.args.k _ _ (omega arith) (omega arith) (omega arith) (omega arith)

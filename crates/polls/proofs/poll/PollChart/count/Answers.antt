@@ -8,14 +8,14 @@ returns-in-0 c =
     let r = c.args.self.now.rounds in
     omega (arith, count_panel n r c.args.i (sym c.if-not-allowed.ensures) (omega arith), mul_assoc 2 n r)
 
-pub returns-in-default : goal.returns-in-default
-returns-in-default c =
+pub returns-in_default : goal.returns-in_default
+returns-in_default c =
     let n = c.args.self.now.keypads in
     let r = c.args.self.now.rounds in
     omega (arith, count_keypad n r c.args.i (sym c.if-not-allowed.ensures) (omega arith) (omega arith))
 
-pub returns-in-default-2 : goal.returns-in-default-2
-returns-in-default-2 c =
+pub returns-in_default-2 : goal.returns-in_default-2
+returns-in_default-2 c =
     let n = c.args.self.now.keypads in
     let r = c.args.self.now.rounds in
     omega (arith, count_past n r c.args.i (sym c.if-not-allowed.ensures) (omega arith))

@@ -11,14 +11,14 @@ returns-then-k-count c =
     let es = column (lists_of c.args.self.now.keypads c.args.self.now.rounds) c.args.i in
     sym (get_or_past es c.args.k no_event (omega arith))
 
-pub panel-event-requires : goal.panel-event-requires
-panel-event-requires c =
+pub panel_event-requires : goal.panel_event-requires
+panel_event-requires c =
     let x = inside c.args.self.now.keypads c.args.self.now.rounds c.args.i c.args.k (omega arith) in
     let here = x.at_panel c.in-0.is in
     omega arith
 
-pub keypad-event-requires : goal.keypad-event-requires
-keypad-event-requires c =
+pub keypad_event-requires : goal.keypad_event-requires
+keypad_event-requires c =
     let x = inside c.args.self.now.keypads c.args.self.now.rounds c.args.i c.args.k (omega arith) in
     let here = x.at_keypad (omega arith) in
     omega arith
@@ -26,9 +26,9 @@ keypad-event-requires c =
 pub returns-in-0 : goal.returns-in-0
 returns-in-0 c =
     let x = inside c.args.self.now.keypads c.args.self.now.rounds c.args.i c.args.k (omega arith) in
-    c.panel-event.ensures ∙ sym (x.at_panel c.in-0.is).1
+    c.panel_event.ensures ∙ sym (x.at_panel c.in-0.is).1
 
-pub returns-in-default : goal.returns-in-default
-returns-in-default c =
+pub returns-in_default : goal.returns-in_default
+returns-in_default c =
     let x = inside c.args.self.now.keypads c.args.self.now.rounds c.args.i c.args.k (omega arith) in
-    c.keypad-event.ensures ∙ sym (x.at_keypad (omega arith)).1
+    c.keypad_event.ensures ∙ sym (x.at_keypad (omega arith)).1

@@ -90,11 +90,11 @@ pass-requires c =
     let x = c.in-Some.slot in
     let e = sym c.next.ensures ∙ c.in-Some.is in
     let w = c.width-width.result in
-    let r = c.mate-ran-ran.result in (
-      low b i x e w c.width-width.ensures r c.mate-ran-ran.ensures,
+    let r = c.mate_ran-ran.result in (
+      low b i x e w c.width-width.ensures r c.mate_ran-ran.ensures,
       (
-        narrow b i x e w c.width-width.ensures r c.mate-ran-ran.ensures,
-        (fits b i x e w c.width-width.ensures r c.mate-ran-ran.ensures, sent b i x e w c.width-width.ensures r c.mate-ran-ran.ensures),
+        narrow b i x e w c.width-width.ensures r c.mate_ran-ran.ensures,
+        (fits b i x e w c.width-width.ensures r c.mate_ran-ran.ensures, sent b i x e w c.width-width.ensures r c.mate_ran-ran.ensures),
       ),
     )
 
@@ -104,26 +104,26 @@ advance-requires c =
     let i = c.args.i in
     let x = c.in-Some.slot in
     let e = sym c.next.ensures ∙ c.in-Some.is in
-    let n = low b i x e c.width-width.result c.width-width.ensures c.mate-ran-ran.result c.mate-ran-ran.ensures in
+    let n = low b i x e c.width-width.result c.width-width.ensures c.mate_ran-ran.result c.mate_ran-ran.ensures in
     let p = c.pass.ensures.places i in
     let w = b.within i in
     let s = count_size (kept b.copy) i in
     let few = (kept_sound b.copy).few_events in
     (n, omega arith)
 
-pub invariant-of-self : goal.invariant-of-self
-invariant-of-self c =
+pub invariant_of-self : goal.invariant_of-self
+invariant_of-self c =
     let b = c.args.self.now in
     let i = c.args.i in
     let x = c.in-Some.slot in
     let e = sym c.next.ensures ∙ c.in-Some.is in
     let w = c.width-width.result in
-    let r = c.mate-ran-ran.result in
+    let r = c.mate_ran-ran.result in
     let mid = c.pass.new.self.table in
     let after = c.advance.new.self.table in (
-      within' b i x e w c.width-width.ensures r c.mate-ran-ran.ensures mid after c.pass.ensures.places c.pass.ensures.counts c.advance.ensures.places c.advance.ensures.counts,
+      within' b i x e w c.width-width.ensures r c.mate_ran-ran.ensures mid after c.pass.ensures.places c.pass.ensures.counts c.advance.ensures.places c.advance.ensures.counts,
       (
-        tallied' b i x e w c.width-width.ensures r c.mate-ran-ran.ensures mid after c.pass.ensures.places c.pass.ensures.counts c.advance.ensures.places c.advance.ensures.counts,
+        tallied' b i x e w c.width-width.ensures r c.mate_ran-ran.ensures mid after c.pass.ensures.places c.pass.ensures.counts c.advance.ensures.places c.advance.ensures.counts,
         tt,
       ),
     )

@@ -5,17 +5,17 @@ use Rattle.rules.specs.Held.{held_now}
 use Rattle.rules.proofs.Drove.{turns_stop, turns_all, turn_more, turn_stop, fits_byte}
 use Rattle.rules.proofs.board.Board.drive.Goals as goal
 
-pub returns-in-default : goal.returns-in-default
-returns-in-default g c =
+pub returns-in_default : goal.returns-in_default
+returns-in_default g c =
     let M = g.M.Medium.carries c.args.medium.now in
     let L = kept c.args.self.now.copy in
     let l = c.loop-made in
-    let stop = turn_stop M L c.args.held (kept l.self.copy) (ap kept (sym l.invariant.0)) l.self.rows.table c.in-default.ensures in
+    let stop = turn_stop M L c.args.held (kept l.self.copy) (ap kept (sym l.invariant.0)) l.self.rows.table c.in_default.ensures in
     let r = turns_stop (held_now M L c.args.held) (length L) l.made (length c.args.out.now) _ l.self.rows.table c.args.out.now l.out l.invariant.1 (omega arith) stop in
     record { keeps = l.invariant.0; wrote = r.1; made = r.0 }
 
-pub overflow-cast-out : goal.overflow-cast-out
-overflow-cast-out g c =
+pub overflow_cast-out : goal.overflow_cast-out
+overflow_cast-out g c =
     let l = c.loop-made in
     let f = fits_byte (kept l.self.copy) (kept_sound l.self.copy) c.in-Some.i _ c.in-Some.ensures in
     omega arith

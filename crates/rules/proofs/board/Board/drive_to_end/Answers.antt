@@ -4,8 +4,8 @@ use Rattle.rules.specs.Held.{held_now}
 use Rattle.rules.proofs.Ended.{steps_long, steps_within, steps_taken, steps_moved}
 use Rattle.rules.proofs.board.Board.drive_to_end.Goals as goal
 
-pub invariant-of-result : goal.invariant-of-result
-invariant-of-result g c =
+pub invariant_of-result : goal.invariant_of-result
+invariant_of-result g c =
     let b = c.args.self.now in
     let L = kept b.copy in
     let test = held_now (g.M.Medium.carries c.args.medium.now) L c.args.held in

@@ -5,8 +5,8 @@ use Rattle.rules.specs.Places.{place_of}
 use Rattle.rules.proofs.Made.{sum_more, sum_part, made_most}
 use Rattle.rules.proofs.board.Board.made.Goals as goal
 
-pub overflow-add-made : goal.overflow-add-made
-overflow-add-made c =
+pub overflow_add-made : goal.overflow_add-made
+overflow_add-made c =
     let b = c.args.self.now in
     let L = kept b.copy in
     let p = place_of b.rows.table in

@@ -2,8 +2,8 @@ use Rattle.std.proofs.Common.{refl}
 use Rattle.rules.proofs.News.{new_place, new_sent, new_even}
 use Rattle.rules.proofs.rows.Rows.new.Goals as goal
 
-pub invariant-of-result : goal.invariant-of-result
-invariant-of-result c = (refl, (new_even 32, tt))
+pub invariant_of-result : goal.invariant_of-result
+invariant_of-result c = (refl, (new_even 32, tt))
 
 pub returns : goal.returns
 returns c = record { places = new_place 32; counts = new_sent 32 }

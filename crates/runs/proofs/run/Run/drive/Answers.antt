@@ -24,7 +24,7 @@ returns g c =
     let all = d.ensures.made ∙ ap length (steps_are M L b.rows.table d.new.self.rows.table n out d.new.out room d.ensures.wrote) in
     record {
       tells = λ h s.
-          tells_sound b.copy.fault _ (λ (a : Result Drove Refusal). DriveAnswers M L h n out a _) _ (sym c.check.ensures ∙ c.in-ok-check.was)
+          tells_sound b.copy.fault _ (λ (a : Result Drove Refusal). DriveAnswers M L h n out a _) _ (sym c.check.ensures ∙ c.in_ok-check.was)
           (drive_answers M L b.rows.table d.new.self.rows.table n out d.new.out room d.ensures.wrote (kept_sound b.copy) h s d.result c.ending-ending.result all (c.ending-ending.ensures ∙ ap (λ (x : Indexed). ending_of (kept x) (place_of d.new.self.rows.table) d.result n) d.ensures.keeps));
       keeps = (d.ensures.keeps, refl);
       moves = λ j. drive_moves M L b.rows.table d.new.self.rows.table n out d.new.out room d.ensures.wrote j ∙ ap (λ (k : ℕ). moved_by (place_of b.rows.table) (take k (d.new.out ++ drop (n - 0) (drop 0 out))) j) (sym all);

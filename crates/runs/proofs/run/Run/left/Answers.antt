@@ -4,8 +4,8 @@ use Rattle.rules.specs.Places.{place_of}
 use Rattle.runs.proofs.Judging.{made_within, left_is}
 use Rattle.runs.proofs.run.Run.left.Goals as goal
 
-pub overflow-sub-result : goal.overflow-sub-result
-overflow-sub-result g c =
+pub overflow_sub-result : goal.overflow_sub-result
+overflow_sub-result g c =
     let b = c.args.self.now.board in
     made_within (kept b.copy) (place_of b.rows.table) b.within c.made.result c.events.result c.made.ensures c.events.ensures
 

@@ -21,7 +21,7 @@ returns-then-may g c =
     let left = (slot_there L i (place_of b.rows.table i) c.in-Some.slot next).0 in
     record {
       tells = λ h s.
-          tells_sound b.copy.fault _ (StepAnswers M L h i) _ (sym c.check.ensures ∙ c.in-ok-check.was)
+          tells_sound b.copy.fault _ (StepAnswers M L h i) _ (sym c.check.ensures ∙ c.in_ok-check.was)
           (step_runs M L (kept_sound b.copy) b.rows.table h s i c.in-Some.slot next (sym c.may.ensures ∙ c.if-may.true));
       keeps = (c.advance.ensures.keeps, refl);
       moves = λ j. c.advance.ensures.moves j ∙ cond-true (unfinished L (place_of b.rows.table) i) (moved (place_of b.rows.table) i j) (place_of b.rows.table j) (lt-ltb (place_of b.rows.table i) _ left);
@@ -37,8 +37,8 @@ returns-else-may g c =
     let next = sym c.next.ensures ∙ c.in-Some.is in
     record {
       tells = λ h s.
-          tells_sound b.copy.fault _ (StepAnswers M L h i) _ (sym c.check.ensures ∙ c.in-ok-check.was)
-          (step_waits M L (kept_sound b.copy) b.rows.table h s i c.in-Some.slot next c.waits-for.result (sym c.may.ensures ∙ c.if-may.false) c.waits-for.ensures);
+          tells_sound b.copy.fault _ (StepAnswers M L h i) _ (sym c.check.ensures ∙ c.in_ok-check.was)
+          (step_waits M L (kept_sound b.copy) b.rows.table h s i c.in-Some.slot next c.waits_for.result (sym c.may.ensures ∙ c.if-may.false) c.waits_for.ensures);
       keeps = (refl, refl);
       moves = λ j. refl;
       refused = refl;

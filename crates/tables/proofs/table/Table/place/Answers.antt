@@ -19,8 +19,8 @@ returns-then-k-count c =
     let t = c.args.self.now in
     sym (outside (table_lists t.lengths.now t.events.now) c.args.i c.args.k (omega arith))
 
-pub slice-bounds-total-end : goal.slice-bounds-total-end
-slice-bounds-total-end c =
+pub slice_bounds-total-end : goal.slice_bounds-total-end
+slice_bounds-total-end c =
     let at = counted_in c.args.self.now c.args.i c.args.k c.count.result c.count.ensures c.if-k-count.false in omega arith
 
 pub total-requires : goal.total-requires
@@ -29,8 +29,8 @@ total-requires c =
     let l = length-take (c.args.i - 0) c.args.self.now.lengths.now in
     omega arith
 
-pub overflow-add-result : goal.overflow-add-result
-overflow-add-result c =
+pub overflow_add-result : goal.overflow_add-result
+overflow_add-result c =
     let at = counted_in c.args.self.now c.args.i c.args.k c.count.result c.count.ensures c.if-k-count.false in
     let s = started c.args.self.now.lengths.now c.args.i c.total.result c.total.ensures in
     omega arith
