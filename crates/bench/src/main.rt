@@ -1,9 +1,9 @@
 // Measures charts of the largest sizes: tables, and runs.
 #![tactic(auto)]
 
-mod runs;
+mod run_times;
 
-use crate::runs::measure_runs;
+use crate::run_times::measure_runs;
 use charts::{Chart, Event, INPUT, OUTPUT};
 use std::alloc::{AllocError, Global};
 use std::env;

@@ -11,8 +11,8 @@ use charts::{Chart, Fault};
 impl Indexed {
     // A copy of any chart.
     pub fn new<C: Chart>(chart: &C) -> Indexed
-        ensures lists { kept result ≡ lists chart.now }
-        ensures fault { result.fault ≡ trouble chart.now }
+        ensures lists { kept result ≡ C.lists chart.now }
+        ensures fault { result.fault ≡ C.trouble chart.now }
     {
         let fault = chart.fault();
         let grid = Grid::new(chart).linked();

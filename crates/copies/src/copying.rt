@@ -9,8 +9,8 @@ use charts::Chart;
 
 // Copies the events of instance i, from the place start on.
 fn copy_column<C: Chart>(slots: &mut [Slot; 4096], chart: &C, i: usize, start: usize)
-    requires { start + count_of (lists chart.now) i ≤ 4096 }
-    ensures { take (start + count_of (lists chart.now) i) (events_in slots.new) ≡ take start (events_in slots.old) ++ column (lists chart.now) i }
+    requires { start + count_of (C.lists chart.now) i ≤ 4096 }
+    ensures { take (start + count_of (C.lists chart.now) i) (events_in slots.new) ≡ take start (events_in slots.old) ++ column (C.lists chart.now) i }
 {
     for k in 0..chart.count(i) {
         slots[start + k] = Slot {
@@ -24,7 +24,7 @@ fn copy_column<C: Chart>(slots: &mut [Slot; 4096], chart: &C, i: usize, start: u
 impl Grid {
     // The events of any chart; none where it is spoiled.
     pub(crate) fn new<C: Chart>(chart: &C) -> Grid
-        ensures { grid_lists result ≡ lists chart.now }
+        ensures { grid_lists result ≡ C.lists chart.now }
     {
         let mut columns = [Column { start: 0, count: 0 }; 32];
         let mut slots = [NO_SLOT; 4096];

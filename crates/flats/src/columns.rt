@@ -13,7 +13,7 @@ pub(crate) struct Column {
 impl Column {
     // The column of instance i, behind the events so far.
     pub(crate) fn new<C: Chart>(events: &Vec<Event>, chart: &C, i: usize) -> Column
-        ensures { result ≡ record { start = vec_len events.now; count = count_of (lists chart.now) i } }
+        ensures { result ≡ record { start = vec_len events.now; count = count_of (C.lists chart.now) i } }
     {
         Column {
             start: events.len(),

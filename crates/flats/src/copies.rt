@@ -10,7 +10,7 @@ pub(crate) fn push_events<C: Chart>(
     chart: &C,
     i: usize,
 ) -> Result<(), AllocError>
-    ensures { OnOk result (events.new.items ≡ events.old.items ++ column (lists chart.now) i) }
+    ensures { OnOk result (events.new.items ≡ events.old.items ++ column (C.lists chart.now) i) }
 {
     for k in 0..chart.count(i) {
         events.push(chart.event(i, k))?;

@@ -24,7 +24,7 @@ fn push_events<C: Chart>(
     chart: &C,
     i: usize,
 ) -> Result<(), AllocError>
-    ensures { OnOk result (string_bytes out.new ≡ string_bytes out.old ++ event_lines i 0 (column (lists chart.now) i)) }
+    ensures { OnOk result (string_bytes out.new ≡ string_bytes out.old ++ event_lines i 0 (column (C.lists chart.now) i)) }
 {
     for k in 0..chart.count(i) {
         let text = event_line(heap, i, k, chart.event(i, k))?;
@@ -35,7 +35,7 @@ fn push_events<C: Chart>(
 
 // Writes a line for each event of each instance.
 fn push_instances<C: Chart>(heap: Global, out: &mut String, chart: &C) -> Result<(), AllocError>
-    ensures { OnOk result (string_bytes out.new ≡ string_bytes out.old ++ instance_lines 0 (lists chart.now)) }
+    ensures { OnOk result (string_bytes out.new ≡ string_bytes out.old ++ instance_lines 0 (C.lists chart.now)) }
 {
     for i in 0..chart.width() {
         push_events(heap, out, chart, i)?;
@@ -45,7 +45,7 @@ fn push_instances<C: Chart>(heap: Global, out: &mut String, chart: &C) -> Result
 
 // The report on a sound chart of the given size.
 fn sound_report<C: Chart>(heap: Global, chart: &C, size: Summary) -> Result<String, AllocError>
-    ensures { IfOk result (λ s. string_bytes s ≡ line (chart_line size.width size.events size.span) ++ (instance_lines 0 (lists chart.now) ++ line (codes "sound"))) }
+    ensures { IfOk result (λ s. string_bytes s ≡ line (chart_line size.width size.events size.span) ++ (instance_lines 0 (C.lists chart.now) ++ line (codes "sound"))) }
 {
     let mut out = String::new(heap);
     let text = chart_line(heap, size.width, size.events, size.span)?;
@@ -67,7 +67,7 @@ fn fault_report(heap: Global, fault: Fault) -> Result<String, AllocError>
 
 // The whole report on a chart: its size, a line for each event, and `sound`; or its fault.
 pub fn report<C: Chart>(heap: Global, chart: &C) -> Result<String, AllocError>
-    ensures { IfOk result (λ s. string_bytes s ≡ report_of (trouble chart.now) (lists chart.now)) }
+    ensures { IfOk result (λ s. string_bytes s ≡ report_of (C.trouble chart.now) (C.lists chart.now)) }
 {
     match chart.summary() {
         Ok(size) => sound_report(heap, chart, size),

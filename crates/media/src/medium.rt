@@ -7,7 +7,7 @@ pub trait Medium {
 
     // Whether i may output to j with so many messages on the way from i to j.
     fn sends(&self, i: usize, j: usize, on_the_way: usize) -> bool
-        ensures { result ≡ (carries self.now).send i j on_the_way_lem };
+        ensures { result ≡ (carries self.now).send i j on_the_way };
 
     // Whether j may input a message of i with so many others ahead of it.
     fn takes(&self, i: usize, j: usize, ahead: usize) -> bool

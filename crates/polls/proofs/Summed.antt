@@ -9,7 +9,7 @@ use Rattle.polling.proofs.Size.{size_polling}
 use Rattle.polling.proofs.Spanned.{span_polling}
 
 pub summed_within : (n r w v s : ℕ) → allowed n r ≡ true → w ≡ n + 1 → v ≡ 4 * (n * r) → s ≡ 2 * (n * r) → Ok (record { width = w; events = v; span = s }) ≡ summed (trouble_of n r) (lists_of n r)
-summed_within n r w v s e same_width_lem same_events same_span =
+summed_within n r w v s e same_width same_events same_span =
     let whole : summed (trouble_of n r) (lists_of n r) ≡ summed None (polling n r) = ap (λ (b : Bool). let t = cond b None (Some oversize) in summed t (unspoiled t (polling n r))) e in
     let width = length_polling n r in
     let events = size_polling n r in

@@ -12,7 +12,7 @@ use media::Medium;
 impl Board {
     // Whether instance j may run, and not by the event that is held.
     fn may_but<M: Medium>(&self, medium: &M, held: Option<Held>, j: usize) -> bool
-        ensures { result ≡ held_now (carries medium.now) (kept self.now.copy) held (place_of self.now.rows.table) j }
+        ensures { result ≡ held_now (M.carries medium.now) (kept self.now.copy) held (place_of self.now.rows.table) j }
     {
         match held {
             None => self.may(medium, j),
@@ -25,7 +25,7 @@ impl Board {
 
     // The lowest-numbered instance that may run, and not by the event that is held.
     pub fn lowest<M: Medium>(&self, medium: &M, held: Option<Held>) -> Option<usize>
-        ensures { result ≡ some_below (length (kept self.now.copy)) (lowest_of (held_now (carries medium.now) (kept self.now.copy) held (place_of self.now.rows.table)) (length (kept self.now.copy))) }
+        ensures { result ≡ some_below (length (kept self.now.copy)) (lowest_of (held_now (M.carries medium.now) (kept self.now.copy) held (place_of self.now.rows.table)) (length (kept self.now.copy))) }
     {
         for j in 0..self.copy.width() {
             if self.may_but(medium, held, j) {
@@ -38,8 +38,8 @@ impl Board {
     // Makes as many lowest-numbered steps as the buffer is long, or until none is left, and writes their instances.
     pub fn drive<M: Medium>(&mut self, medium: &M, held: Option<Held>, out: &mut [u8]) -> usize
         ensures keeps { self.new.copy ≡ self.old.copy }
-        ensures wrote { Wrote (driven (held_now (carries medium.now) (kept self.old.copy) held) (length (kept self.old.copy)) (length out.old) (place_of self.old.rows.table)) self.old.rows.table self.new.rows.table out.old out.new }
-        ensures made { result ≡ length (driven (held_now (carries medium.now) (kept self.old.copy) held) (length (kept self.old.copy)) (length out.old) (place_of self.old.rows.table)) }
+        ensures wrote { Wrote (driven (held_now (M.carries medium.now) (kept self.old.copy) held) (length (kept self.old.copy)) (length out.old) (place_of self.old.rows.table)) self.old.rows.table self.new.rows.table out.old out.new }
+        ensures made { result ≡ length (driven (held_now (M.carries medium.now) (kept self.old.copy) held) (length (kept self.old.copy)) (length out.old) (place_of self.old.rows.table)) }
     {
         for made in 0..out.len() {
             let Some(i) = self.lowest(medium, held) else {

@@ -19,7 +19,7 @@ impl Board {
 
     // Whether the slot's event, the next of instance i, may run.
     fn allows<M: Medium>(&self, medium: &M, i: usize, slot: Slot) -> bool
-        ensures { result ≡ slot_may (carries medium.now) (length (kept self.now.copy)) (place_of self.now.rows.table) (sent_of self.now.rows.table) i slot }
+        ensures { result ≡ slot_may (M.carries medium.now) (length (kept self.now.copy)) (place_of self.now.rows.table) (sent_of self.now.rows.table) i slot }
     {
         let peer = usize::from(slot.event.peer);
         let width = self.copy.width();
@@ -36,7 +36,7 @@ impl Board {
 
     // Whether instance i has an event left, and its next may run.
     pub fn may<M: Medium>(&self, medium: &M, i: usize) -> bool
-        ensures { result ≡ may_now (carries medium.now) (kept self.now.copy) (place_of self.now.rows.table) i }
+        ensures { result ≡ may_now (M.carries medium.now) (kept self.now.copy) (place_of self.now.rows.table) i }
     {
         match self.next(i) {
             None => false,

@@ -32,7 +32,7 @@ impl<M: Medium> Run<M> {
 
     // Makes the lowest-numbered step that can be made, n times or until none is left, and writes the instances.
     pub fn drive(&mut self, n: usize, buffer: &mut [u8]) -> Result<Drove, Refusal>
-        ensures tells { (h : List ℕ) → Stands self.old.board.rows.table h → Tells self.old.board.copy.fault (λ (a : Result Made Refused). DriveAnswers (carries self.old.medium) (kept self.old.board.copy) h n buffer.old a buffer.new) result }
+        ensures tells { (h : List ℕ) → Stands self.old.board.rows.table h → Tells self.old.board.copy.fault (λ (a : Result Made Refused). DriveAnswers (M.carries self.old.medium) (kept self.old.board.copy) h n buffer.old a buffer.new) result }
         ensures keeps { (self.new.board.copy ≡ self.old.board.copy) × (self.new.medium ≡ self.old.medium) }
         ensures moves { DriveMoves (place_of self.old.board.rows.table) (place_of self.new.board.rows.table) buffer.new result }
         ensures refused { RefusalKeeps result self.old self.new }

@@ -41,7 +41,7 @@ impl<M: Medium> Run<M> {
 
     // Whether a full order exists: writes the rest of one, lowest first, or the ring of instances that wait for each other.
     pub fn judge(&self, buffer: &mut [u8]) -> Result<Verdict, Refusal>
-        ensures tells { (h : List ℕ) → Stands self.now.board.rows.table h → Tells self.now.board.copy.fault (λ (a : Result Judged Refused). JudgeAnswers (carries self.now.medium) (kept self.now.board.copy) h buffer.old a buffer.new) result }
+        ensures tells { (h : List ℕ) → Stands self.now.board.rows.table h → Tells self.now.board.copy.fault (λ (a : Result Judged Refused). JudgeAnswers (M.carries self.now.medium) (kept self.now.board.copy) h buffer.old a buffer.new) result }
         ensures keeps { RefusalKeeps result buffer.old buffer.new }
     {
         self.check()?;

@@ -12,7 +12,7 @@ use rules::Held;
 impl<M: Medium> Run<M> {
     // The latest place of event k of instance i, counted from 1 over the whole order.
     pub fn latest(&self, i: usize, k: usize) -> Result<usize, Refusal>
-        ensures { (h : List ℕ) → Stands self.now.board.rows.table h → Tells self.now.board.copy.fault (LatestAnswers (carries self.now.medium) (kept self.now.board.copy) h i k) result }
+        ensures { (h : List ℕ) → Stands self.now.board.rows.table h → Tells self.now.board.copy.fault (LatestAnswers (M.carries self.now.medium) (kept self.now.board.copy) h i k) result }
     {
         self.check()?;
         if i >= self.board.width() {

@@ -14,7 +14,7 @@ use media::Medium;
 impl<M: Medium> Run<M> {
     // Runs the next event of instance i and answers it.
     pub fn step(&mut self, i: usize) -> Result<Event, Refusal>
-        ensures tells { (h : List ℕ) → Stands self.old.board.rows.table h → Tells self.old.board.copy.fault (StepAnswers (carries self.old.medium) (kept self.old.board.copy) h i) result }
+        ensures tells { (h : List ℕ) → Stands self.old.board.rows.table h → Tells self.old.board.copy.fault (StepAnswers (M.carries self.old.medium) (kept self.old.board.copy) h i) result }
         ensures keeps { (self.new.board.copy ≡ self.old.board.copy) × (self.new.medium ≡ self.old.medium) }
         ensures moves { StepMoves (place_of self.old.board.rows.table) (place_of self.new.board.rows.table) i result }
         ensures refused { RefusalKeeps result self.old self.new }

@@ -60,7 +60,7 @@ fn note_place(res: Result<usize, Refusal>) -> Answer
 // Makes a call with the buffer that it is handed.
 fn make_call<M: Medium>(run: &mut Run<M>, call: Call, buffer: &mut [u8]) -> Answer
     ensures keeps { (run.new.board.copy ≡ run.old.board.copy) × (run.new.medium ≡ run.old.medium) }
-    ensures makes { (h : List ℕ) → Stands run.old.board.rows.table h → MakesCall run.old.board.copy.fault (carries run.old.medium) (kept run.old.board.copy) h call buffer.old result buffer.new run.new.board.rows.table }
+    ensures makes { (h : List ℕ) → Stands run.old.board.rows.table h → MakesCall run.old.board.copy.fault (M.carries run.old.medium) (kept run.old.board.copy) h call buffer.old result buffer.new run.new.board.rows.table }
 {
     match call {
         Call::Step(i) => note_step(run.step(i)),
@@ -74,7 +74,7 @@ fn make_call<M: Medium>(run: &mut Run<M>, call: Call, buffer: &mut [u8]) -> Answ
 // Makes the call of the turn, and notes its answer.
 pub(crate) fn take_turn<M: Medium>(run: &mut Run<M>, turn: &mut Turn)
     ensures keeps { (run.new.board.copy ≡ run.old.board.copy) × (run.new.medium ≡ run.old.medium) }
-    ensures makes { (h : List ℕ) → Stands run.old.board.rows.table h → Makes run.old.board.copy.fault (carries run.old.medium) (kept run.old.board.copy) h turn.old turn.new run.new.board.rows.table }
+    ensures makes { (h : List ℕ) → Stands run.old.board.rows.table h → Makes run.old.board.copy.fault (M.carries run.old.medium) (kept run.old.board.copy) h turn.old turn.new run.new.board.rows.table }
 {
     let call = turn.call;
     let answer = make_call(run, call, turn.buffer.as_mut_slice());

@@ -5,7 +5,7 @@ use Rattle.tables.proofs.Passing.{stop, onward, finish}
 use Rattle.tables.proofs.Rows.{small_number}
 use Rattle.tables.proofs.Matching.{match_action, match_found, match_missing}
 use Rattle.tables.proofs.passes.first_unmatched.Goals as goal
-use Rattle.tables.proofs.passes.first_unmatched.Goals.{else_is_message_via_then_is_message+else_not_has_match, else-is_message-via-else-is_message}
+use Rattle.tables.proofs.passes.first_unmatched.Goals.{else-is_message-via-then-is_message+else-not-has_match, else-is_message-via-else-is_message}
 
 pub has_match-requires : goal.has_match-requires
 has_match-requires c =
@@ -31,7 +31,7 @@ loop-k-preserved c =
     let k = c.loop-k.k in
     onward (matched ns es) ns es k c.loop-k.invariant c.loop-k-test.true
     (elim c.else-is_message.branch [
-      | else_is_message_via_then_is_message+else_not_has_match w ↦ match_found ns es k (get_or es k no_event) (sym w.if-not-has_match.ensures)
+      | else-is_message-via-then-is_message+else-not-has_match w ↦ match_found ns es k (get_or es k no_event) (sym w.if-not-has_match.ensures)
       | else-is_message-via-else-is_message w ↦ match_action ns es k (get_or es k no_event) (sym w.if-is_message.ensures)
     ])
 

@@ -9,7 +9,7 @@ use Rattle.tables.proofs.Passing.{stop, onward, finish}
 use Rattle.tables.proofs.Rows.{small_number, second, newcomer, seen_put, seen_skip, seen_same, row_empty}
 use Rattle.tables.specs.declared.message_places.MessagePlaces.{MessagePlaces}
 use Rattle.tables.proofs.passes.index_messages.Goals as goal
-use Rattle.tables.proofs.passes.index_messages.Goals.{then_is_message+else_find_ne_NOWHERE, else-is_message}
+use Rattle.tables.proofs.passes.index_messages.Goals.{then-is_message+else-find-ne-NOWHERE, else-is_message}
 
 pub loop-k-init : goal.loop-k-init
 loop-k-init c = (
@@ -46,7 +46,7 @@ loop-k-preserved c =
     let e = get_or es k no_event in
     let p = c.loop-k.places in
     elim c.if-is_message.branch [
-      | then_is_message+else_find_ne_NOWHERE w ↦
+      | then-is_message+else-find-ne-NOWHERE w ↦
           let n = small_number ns es k c.requires.formed h in
           let yes = sym w.if-is_message.ensures in
           let short = c.requires.short in

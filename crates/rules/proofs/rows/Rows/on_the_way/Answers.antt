@@ -1,7 +1,7 @@
 use Rattle.std.proofs.Common.{◌≤◌, ◌⊎◌, sym, inl, inr, arith}
 use Rattle.std.proofs.lemmas.Bool.{cases_lt}
 use Rattle.rules.proofs.Allowing.{sent_outside}
-use Rattle.rules.proofs.rows.Rows.on_the_way_lem.Goals as goal
+use Rattle.rules.proofs.rows.Rows.on_the_way.Goals as goal
 
 pub returns-else-i-lt32 : goal.returns-else-i-lt32
 returns-else-i-lt32 c =
