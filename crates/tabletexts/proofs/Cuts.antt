@@ -1,6 +1,6 @@
 -- Where a text is cut first.
 use Rattle.std.proofs.Common.{◌≡◌, ℕ, zero, suc, ◌+◌, ◌<◌, eqb, List, [], ◌∷◌, length, get_or, take, drop, refl, ap, ◌∙◌, add-one, arith}
-use native.Mathlib.Nat.{sub_zero}
+use native.Mathlib.Nat.{sub-zero}
 use Rattle.std.specs.List.{between}
 use Rattle.std.proofs.lemmas.List.{take_rest}
 use Rattle.std.proofs.lemmas.Bool.{cond-true, cond-false, eq-eqb, ne_eqb}
@@ -25,4 +25,4 @@ cut_first s (b ∷ bs) (suc i) h l e =
 
 -- the same, in the parts that the code takes
 pub cut_at : (s : ℕ) (text : List ℕ) (i : ℕ) → Without s text i → i < length text → get_or text i 0 ≡ s → pieces s text ≡ between 0 i text ∷ pieces s (between (i + 1) (length text) text)
-cut_at s text i h l e = rw (take_rest text (i + 1), sub_zero i, add-one i) (cut_first s text i h l e)
+cut_at s text i h l e = rw (take_rest text (i + 1), sub-zero i, add-one i) (cut_first s text i h l e)

@@ -17,7 +17,7 @@ pub invariant_of-result : goal.invariant_of-result
 invariant_of-result g c =
     let x = c.args.chart.now in
     let same = copies c.summary-verdict.result (vec_items c.loop-i.columns) (vec_items c.loop-i.events) c.loop-i.i (g.C.Chart.trouble x) (g.C.Chart.lists x) (g.C.Chart.sound x) c.summary-verdict.ensures (omega arith) c.loop-i.invariant in
-    (c.loop-i.invariant.placed, (copied_verdict _ _ _ _ _ same c.summary-verdict.ensures, tt))
+    record { placed = c.loop-i.invariant.placed; judged = copied_verdict _ _ _ _ _ same c.summary-verdict.ensures }
 
 pub returns : goal.returns
 returns g c =
