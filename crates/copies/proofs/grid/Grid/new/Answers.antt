@@ -58,7 +58,14 @@ invariant_of-result g c =
     let n = c.width-width.result in
     let end : c.loop-i.i ≡ n = omega arith in
     let all = subst (λ (j : ℕ). Begun c.loop-i.columns c.loop-i.slots j c.loop-i.events L) end c.loop-i.invariant in
-    (all.wide, (all.long, (omega arith, (all.placed, (all.total, (begun_faultless c.loop-i.columns c.loop-i.slots n c.loop-i.events L c.width-width.ensures all s, tt))))))
+    record {
+      wide = all.wide;
+      long = all.long;
+      narrow = omega arith;
+      placed = all.placed;
+      total = all.total;
+      sound = begun_faultless c.loop-i.columns c.loop-i.slots n c.loop-i.events L c.width-width.ensures all s;
+    }
 
 pub returns : goal.returns
 returns g c =

@@ -120,10 +120,7 @@ invariant_of-self c =
     let w = c.width-width.result in
     let r = c.mate_ran-ran.result in
     let mid = c.pass.new.self.table in
-    let after = c.advance.new.self.table in (
-      within' b i x e w c.width-width.ensures r c.mate_ran-ran.ensures mid after c.pass.ensures.places c.pass.ensures.counts c.advance.ensures.places c.advance.ensures.counts,
-      (
-        tallied' b i x e w c.width-width.ensures r c.mate_ran-ran.ensures mid after c.pass.ensures.places c.pass.ensures.counts c.advance.ensures.places c.advance.ensures.counts,
-        tt,
-      ),
-    )
+    let after = c.advance.new.self.table in record {
+      within = within' b i x e w c.width-width.ensures r c.mate_ran-ran.ensures mid after c.pass.ensures.places c.pass.ensures.counts c.advance.ensures.places c.advance.ensures.counts;
+      tallied = tallied' b i x e w c.width-width.ensures r c.mate_ran-ran.ensures mid after c.pass.ensures.places c.pass.ensures.counts c.advance.ensures.places c.advance.ensures.counts;
+    }

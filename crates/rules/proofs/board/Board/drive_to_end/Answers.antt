@@ -9,10 +9,10 @@ invariant_of-result g c =
     let b = c.args.self.now in
     let L = kept b.copy in
     let test = held_now (g.M.Medium.carries c.args.medium.now) L c.args.held in
-    let d = c.drive-count in (
-      steps_long test (length L) 4096 b.rows.table d.new.self.rows.table (replicate 4096 0) d.new.out refl d.auto.out d.ensures.wrote d.result d.ensures.made,
-      (steps_within test (length L) 4096 b.rows.table d.new.self.rows.table (replicate 4096 0) d.new.out refl d.auto.out d.ensures.wrote d.result d.ensures.made, tt),
-    )
+    let d = c.drive-count in record {
+      long = steps_long test (length L) 4096 b.rows.table d.new.self.rows.table (replicate 4096 0) d.new.out refl d.auto.out d.ensures.wrote d.result d.ensures.made;
+      within = steps_within test (length L) 4096 b.rows.table d.new.self.rows.table (replicate 4096 0) d.new.out refl d.auto.out d.ensures.wrote d.result d.ensures.made;
+    }
 
 pub returns : goal.returns
 returns g c =

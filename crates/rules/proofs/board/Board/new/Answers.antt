@@ -5,4 +5,4 @@ use Rattle.rules.proofs.board.Board.new.Goals as goal
 pub invariant_of-result : goal.invariant_of-result
 invariant_of-result c =
     let t = c.new.result.table in
-    (new_within (kept c.args.copy) t c.new.ensures.places, (new_tallied (kept c.args.copy) t c.new.ensures.places c.new.ensures.counts, tt))
+    record { within = new_within (kept c.args.copy) t c.new.ensures.places; tallied = new_tallied (kept c.args.copy) t c.new.ensures.places c.new.ensures.counts }

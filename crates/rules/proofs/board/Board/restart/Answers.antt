@@ -6,4 +6,4 @@ pub invariant_of-self : goal.invariant_of-self
 invariant_of-self c =
     let L = kept c.args.self.now.copy in
     let t = c.new-self.result.table in
-    (new_within L t c.new-self.ensures.places, (new_tallied L t c.new-self.ensures.places c.new-self.ensures.counts, tt))
+    record { within = new_within L t c.new-self.ensures.places; tallied = new_tallied L t c.new-self.ensures.places c.new-self.ensures.counts }
