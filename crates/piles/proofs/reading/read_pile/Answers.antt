@@ -13,8 +13,8 @@ returns-in_default-read_command c =
     (lines_of c.loop-line.lines.rest.now) (lines_of c.next.new.self.rest.now) c.in-Some.line.now took.0 took.1
     c.number.result c.number.ensures.value (omega (arith, false-eqb _ 0 c.if-not-is_empty.ensures)) c.in_default-read_command.ensures)
 
-pub loop-line-smaller-in-Continue· : goal.loop-line-smaller-in-Continue·
-loop-line-smaller-in-Continue· c =
+pub loop-line-smaller-in-Continue-1 : goal.loop-line-smaller-in-Continue-1
+loop-line-smaller-in-Continue-1 c =
     let took = c.in-Some.ensures in
     let fewer = applied_leaves c.in-Some-read_command.command
     (standing (stack_of (vec_items c.loop-line.pile.charts)) c.next.new.self.number (lines_of c.next.new.self.rest.now))
@@ -22,8 +22,8 @@ loop-line-smaller-in-Continue· c =
     c.in_ok-apply.ensures in
     omega (arith, ap length took.0)
 
-pub loop-line-preserved-in-Continue· : goal.loop-line-preserved-in-Continue·
-loop-line-preserved-in-Continue· c o p =
+pub loop-line-preserved-in-Continue-1 : goal.loop-line-preserved-in-Continue-1
+loop-line-preserved-in-Continue-1 c o p =
     let took = c.in-Some.ensures in
     c.loop-line.invariant o
     (line_followed (stack_of (vec_items c.loop-line.pile.charts)) c.loop-line.lines.number c.next.new.self.number
@@ -40,7 +40,7 @@ returns-in_err-apply c =
     c.in-Some-read_command.command c.in-Some-read_command.ensures
     _
     (standing (stack_of (vec_items c.apply.new.self.charts)) c.apply.new.lines.number (lines_of c.apply.new.lines.rest.now))
-    _ c.in_err-apply.field-0.0 c.from-residual.result c.loop-line.invariant c.in_err-apply.ensures (search rules)
+    _ c.in_err-apply.field-0.0 c.from_residual.result c.loop-line.invariant c.in_err-apply.ensures (search rules)
 
 pub loop-line-preserved : goal.loop-line-preserved
 loop-line-preserved c o p =
