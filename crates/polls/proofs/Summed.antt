@@ -1,7 +1,6 @@
 -- The summary of a poll within its limits.
 use Rattle.std.proofs.Common.{◌≡◌, ℕ, ◌+◌, ◌*◌, Bool, true, cond, Some, None, Ok, ap}
 use Rattle.charts.specs.Judged.{summed, unspoiled}
-use Rattle.charts.specs.Span.{span}
 use Rattle.polling.specs.Limits.{allowed, oversize, trouble_of, lists_of}
 use Rattle.polling.specs.Polling.{polling}
 use Rattle.polling.proofs.Places.{length_polling}

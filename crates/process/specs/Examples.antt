@@ -1,5 +1,5 @@
 -- The worked examples of Z.120 Annex B (Examples B.4.4.2 and B.4.4.7), without parameters.
-use Rattle.std.specs.Prelude.{◌≡◌, ℕ, List, [], ◌∷◌, ◌≢◌}
+use Rattle.std.specs.Prelude.{ℕ, List, [], ◌∷◌, ◌≢◌}
 use Rattle.charts.specs.declared.parts.Event.{Event}
 use Rattle.charts.specs.Events.{event, output, input}
 use Rattle.process.specs.Actions.{out, «in»}

@@ -1,5 +1,5 @@
 -- The rule read off a slot is the rule of what may run.
-use Rattle.std.proofs.Common.{◌≡◌, ℕ, ◌<◌, ◌≤◌, Bool, true, false, cond, ◌&&◌, eqb, ltb, ◌⊎◌, List, [], length, get_or, Some, None, sym, refl, ap, ◌∙◌, subst, inl, inr, arith}
+use Rattle.std.proofs.Common.{◌≡◌, ℕ, ◌<◌, ◌≤◌, false, cond, eqb, ltb, ◌⊎◌, List, [], length, get_or, Some, None, sym, refl, ap, ◌∙◌, subst, inl, inr, arith}
 use Rattle.std.proofs.lemmas.List.{get_or_past}
 use Rattle.std.proofs.lemmas.Bool.{cases_eq, cases_lt, eq-eqb, ne_eqb, eqb-false, lt-ltb, le-ltb, ltb-false, and_cases, or_parts, cases_Bool, cond-true, cond-false}
 use Rattle.charts.specs.declared.parts.Event.{Event}
@@ -7,7 +7,6 @@ use Rattle.charts.specs.Events.{event, output, input, action, environment, is_me
 use Rattle.charts.specs.Lists.{At, column, count_of, event_of}
 use Rattle.charts.specs.Sound.{Sound}
 use Rattle.media.specs.Carry.{Carry}
-use Rattle.orders.specs.Passing.{passing}
 use Rattle.orders.specs.Deciding.{output_place, input_place, sent_at, may_run, waits_for}
 use Rattle.copies.specs.declared.parts.Slot.{Slot}
 use Rattle.copies.specs.Slots.{between, mate_of, ahead_of, slot_of, slot_at}

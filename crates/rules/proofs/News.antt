@@ -1,10 +1,9 @@
 -- Rows of instances that have not stepped.
-use Rattle.std.proofs.Common.{◌≡◌, ℕ, zero, suc, ◌<◌, ◌≤◌, List, [], ◌∷◌, length, get_or, replicate, refl, arith}
+use Rattle.std.proofs.Common.{◌≡◌, ℕ, zero, suc, ◌<◌, List, length, get_or, replicate, refl, arith}
 use Rattle.charts.specs.declared.parts.Event.{Event}
-use Rattle.charts.specs.Lists.{count_of}
 use Rattle.orders.specs.Passing.{passing}
 use Rattle.rules.specs.declared.row.Row.{Row}
-use Rattle.rules.specs.Places.{no_row, place_of, sent_of, Within, Even, Tallied}
+use Rattle.rules.specs.Places.{no_row, place_of, sent_of, Within, Tallied}
 
 abbrev new_row : Row
 new_row = record { position = 0; sent = replicate 32 0 }

@@ -1,11 +1,11 @@
 -- After one step the counts are still the messages on the way.
-use Rattle.std.proofs.Common.{◌≡◌, ℕ, ◌+◌, ◌^◌, ◌<◌, ◌≤◌, Bool, true, false, cond, not, ◌&&◌, eqb, ltb, ◌⊎◌, List, [], length, get_or, take, sym, refl, ap, ◌∙◌, subst, ap₂, inl, inr, arith, length-take}
+use Rattle.std.proofs.Common.{◌≡◌, ℕ, ◌+◌, ◌^◌, ◌<◌, ◌≤◌, Bool, true, false, cond, not, ◌&&◌, eqb, ltb, ◌⊎◌, List, [], length, take, sym, refl, ap, ◌∙◌, ap₂, inl, inr, arith, length-take}
 use Rattle.std.proofs.lemmas.List.{get_or_past}
 use Rattle.std.proofs.lemmas.List.Sums.{count_by-le-length}
-use Rattle.std.proofs.lemmas.Bool.{cases_eq, cases_lt, cases_Bool, eq-eqb, ne_eqb, eqb-true, lt-ltb, le-ltb, ltb-true, and_parts, and_from, and_left, and_right, or_left, or_right, cond-true, cond-false}
+use Rattle.std.proofs.lemmas.Bool.{cases_eq, cases_lt, cases_Bool, eq-eqb, ne_eqb, eqb-true, lt-ltb, le-ltb, and_parts, and_from, and_left, and_right, or_left, or_right, cond-true, cond-false}
 use Rattle.charts.specs.declared.parts.Event.{Event}
-use Rattle.charts.specs.Events.{event, output, input, is_message}
-use Rattle.charts.specs.Lists.{At, column, count_of, event_of, size}
+use Rattle.charts.specs.Events.{output, input, is_message}
+use Rattle.charts.specs.Lists.{column, count_of, event_of}
 use Rattle.charts.specs.Sound.{Sound}
 use Rattle.charts.proofs.Bounds.{count_size}
 use Rattle.orders.specs.Passing.{output_to, input_of, received, passing}

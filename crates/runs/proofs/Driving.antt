@@ -1,7 +1,7 @@
 -- A drive answers and writes what the history fixes.
-use Rattle.std.proofs.Common.{◌≡◌, ℕ, zero, suc, ◌-◌, ◌<◌, ◌≤◌, Bool, true, false, cond, eqb, ltb, List, [], ◌∷◌, ◌++◌, length, take, drop, None, Ok, sym, refl, ap, ◌∙◌, subst, ap₂, inl, inr, arith, length-take}
+use Rattle.std.proofs.Common.{◌≡◌, ℕ, zero, suc, ◌-◌, ◌<◌, ◌≤◌, cond, eqb, ltb, List, [], ◌∷◌, ◌++◌, length, take, drop, None, Ok, sym, refl, ap, ◌∙◌, subst, ap₂, inl, inr, arith, length-take}
 use mathlib.Core.Path.{fun_ext}
-use Rattle.std.proofs.lemmas.List.{append_assoc, get_or_past, take_at, take-append-le}
+use Rattle.std.proofs.lemmas.List.{append_assoc, get_or_past, take_at}
 use Rattle.std.proofs.lemmas.Bool.{cases_lt, cases_eq, eq-eqb, ne_eqb, lt-ltb, le-ltb, ltb-true, ltb-false, cond-true, cond-false}
 use Rattle.charts.specs.declared.parts.Event.{Event}
 use Rattle.charts.specs.Lists.{count_of}
@@ -20,10 +20,9 @@ use Rattle.rules.specs.Held.{held_now}
 use Rattle.rules.specs.Drove.{Wrote}
 use Rattle.runs.specs.declared.parts.Ending.{Ending}
 use Rattle.runs.specs.declared.parts.Ending.TheVariants.{Finished, Count, Stuck}
-use Rattle.runs.specs.declared.parts.Drove.{Drove}
 use Rattle.runs.specs.Endings.{ending_of}
 use Rattle.runs.specs.Stands.{Stands}
-use Rattle.runs.specs.Drives.{Done, EndsBy, Written, DroveOn, DriveAnswers}
+use Rattle.runs.specs.Drives.{Done, EndsBy, DriveAnswers}
 use Rattle.runs.proofs.Telling.{standing}
 
 -- the rest of a part and what is behind it

@@ -1,7 +1,7 @@
 -- Judge answers and writes what the history fixes.
-use Rattle.std.proofs.Common.{◌≡◌, ℕ, zero, suc, ◌+◌, ◌-◌, ◌<◌, ◌≤◌, Bool, true, false, ◌&&◌, leb, List, [], ◌∷◌, ◌++◌, length, take, drop, Ok, Err, sym, refl, ap, ◌∙◌, subst, inl, inr, arith, length-drop, length-take}
+use Rattle.std.proofs.Common.{◌≡◌, ℕ, zero, suc, ◌+◌, ◌-◌, ◌<◌, ◌≤◌, true, false, leb, List, ◌++◌, length, take, drop, Ok, sym, refl, ap, ◌∙◌, subst, arith, length-drop, length-take}
 use mathlib.Core.Path.{fun_ext}
-use Rattle.std.proofs.lemmas.Bool.{leb-true, leb-false, ltb-true, le-leb, and_parts, and_from, both_ways}
+use Rattle.std.proofs.lemmas.Bool.{leb-true, ltb-true, le-leb, and_parts, and_from, both_ways}
 use Rattle.charts.specs.declared.parts.Event.{Event}
 use Rattle.charts.specs.Lists.{count_of, size}
 use Rattle.charts.specs.Sound.{Sound}
@@ -20,7 +20,6 @@ use Rattle.rules.proofs.Made.{made_most, made_length}
 use Rattle.rings.specs.Walks.{ring_of}
 use Rattle.rings.proofs.Rings.{one_ring_of}
 use Rattle.runs.specs.declared.parts.Verdict.TheVariants.{Runs, Stuck}
-use Rattle.runs.specs.declared.parts.Refusal.TheVariants.{ShortBuffer}
 use Rattle.runs.specs.Rooms.{room_for}
 use Rattle.runs.specs.Stands.{Stands}
 use Rattle.runs.specs.Drives.{Written}

@@ -1,11 +1,10 @@
 -- Each call makes of a run's history what its rule says.
-use Rattle.std.proofs.Common.{◌≡◌, ℕ, ◌<◌, ◌≤◌, List, [], ◌∷◌, ◌++◌, length, take, drop, Some, None, Ok, Err, Option, Result, sym, refl, ap, ◌∙◌, subst, inl, inr, arith}
+use Rattle.std.proofs.Common.{◌≡◌, ℕ, List, [], ◌∷◌, ◌++◌, length, take, drop, Some, None, Ok, Err, Option, Result, sym, refl, ap, ◌∙◌, inl, inr, arith}
 use Rattle.std.proofs.lemmas.List.{take_at}
 use Rattle.charts.specs.declared.parts.Event.{Event}
 use Rattle.charts.specs.declared.parts.Fault.{Fault}
 use Rattle.charts.specs.Sound.{Sound}
 use Rattle.media.specs.Carry.{Carry}
-use Rattle.orders.specs.Histories.{pos}
 use Rattle.orders.specs.May.{May}
 use Rattle.orders.specs.Driving.{moved, moved_by}
 use Rattle.orders.proofs.Decided.{may_unfinished, may_or_waits}

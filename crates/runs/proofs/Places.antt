@@ -1,6 +1,5 @@
 -- Latest answers what the history fixes.
 use Rattle.std.proofs.Common.{◌≡◌, ℕ, suc, ◌+◌, ◌<◌, ◌≤◌, List, ◌++◌, length, take, None, Ok, Err, sym, refl, ap, ◌∙◌, subst, arith, length-take, w64, Fits}
-use mathlib.Core.Path.{fun_ext}
 use Rattle.std.proofs.lemmas.Bool.{ltb-true}
 use Rattle.charts.specs.declared.parts.Event.{Event}
 use Rattle.charts.specs.Lists.{count_of, size}
@@ -8,7 +7,7 @@ use Rattle.charts.specs.Sound.{Sound}
 use Rattle.media.specs.Carry.{Carry}
 use Rattle.orders.specs.Histories.{pos}
 use Rattle.orders.specs.May.{May}
-use Rattle.orders.specs.Orders.{Order, Full}
+use Rattle.orders.specs.Orders.{Order}
 use Rattle.orders.specs.Latest.{Other, Latest}
 use Rattle.orders.specs.Deciding.{unfinished, may_now}
 use Rattle.orders.specs.Driving.{lowest, moved_by, driven, other_now}

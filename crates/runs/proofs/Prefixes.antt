@@ -1,5 +1,5 @@
 -- A list of calls, a turn at a time.
-use Rattle.std.proofs.Common.{◌≡◌, ℕ, suc, ◌+◌, ◌<◌, ◌≤◌, ◌⊎◌, List, [], ◌∷◌, ◌++◌, length, get_or, take, drop, set, Some, None, vec_items, Option, sym, refl, ap, ◌∙◌, subst, ap₂, subst₂, inl, inr, add-zero, arith}
+use Rattle.std.proofs.Common.{◌≡◌, ℕ, ◌+◌, ◌<◌, ◌≤◌, List, [], ◌∷◌, ◌++◌, length, get_or, take, drop, set, Some, None, vec_items, Option, sym, refl, ap, ◌∙◌, subst, subst₂, inl, inr, add-zero, arith}
 use Rattle.std.proofs.lemmas.List.{get_or-drop, drop-drop, drop-set-lt, take_more, take_more_set, take_all}
 use Rattle.charts.specs.declared.parts.Event.{Event}
 use Rattle.charts.specs.declared.parts.Fault.{Fault}
@@ -7,8 +7,8 @@ use Rattle.charts.specs.Lists.{size}
 use Rattle.charts.specs.Sound.{Sound}
 use Rattle.media.specs.Carry.{Carry}
 use Rattle.orders.specs.May.{May}
-use Rattle.orders.specs.Orders.{Order, Full}
-use Rattle.orders.specs.Drives.{Drives, Least}
+use Rattle.orders.specs.Orders.{Order}
+use Rattle.orders.specs.Drives.{Least}
 use Rattle.orders.specs.Deciding.{may_now}
 use Rattle.orders.specs.Driving.{driven}
 use Rattle.orders.specs.Histories.{pos}

@@ -1,14 +1,14 @@
 -- A step answers what the history fixes.
-use Rattle.std.proofs.Common.{◌≡◌, ℕ, ◌<◌, true, false, cond, List, [], Some, Ok, Err, sym, refl, ap, ◌∙◌, subst, arith}
+use Rattle.std.proofs.Common.{◌≡◌, ℕ, true, false, cond, List, Some, Ok, Err, sym, refl, ap, ◌∙◌, subst, arith}
 use Rattle.std.proofs.lemmas.Bool.{lt-ltb, cond-true}
 use Rattle.charts.specs.declared.parts.Event.{Event}
-use Rattle.charts.specs.Lists.{At, count_of, event_of}
+use Rattle.charts.specs.Lists.{count_of, event_of}
 use Rattle.charts.specs.Sound.{Sound}
 use Rattle.media.specs.Carry.{Carry}
 use Rattle.copies.specs.declared.parts.Slot.{Slot}
-use Rattle.copies.specs.Slots.{slot_at, slot_of}
-use Rattle.orders.specs.Histories.{pos, Next}
-use Rattle.orders.specs.May.{May, Waits}
+use Rattle.copies.specs.Slots.{slot_at}
+use Rattle.orders.specs.Histories.{pos}
+use Rattle.orders.specs.May.{Waits}
 use Rattle.orders.specs.Deciding.{unfinished, may_now, waits_now}
 use Rattle.orders.proofs.Deciding.{may_true, now_waits}
 use Rattle.rules.specs.declared.row.Row.{Row}

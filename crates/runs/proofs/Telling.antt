@@ -1,5 +1,5 @@
 -- Charts without a fault, and where a run stands.
-use Rattle.std.proofs.Common.{◌≡◌, ℕ, List, Some, None, Ok, Err, Option, Result, arith}
+use Rattle.std.proofs.Common.{◌≡◌, ℕ, List, Some, None, Ok, Option, Result, arith}
 use mathlib.Core.Path.{fun_ext}
 use Rattle.charts.specs.declared.parts.Fault.{Fault}
 use Rattle.orders.specs.Histories.{pos}

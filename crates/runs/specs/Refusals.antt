@@ -1,6 +1,5 @@
 -- The refusals by their numbers.
 use Rattle.std.specs.Prelude.{ℕ, List, [], ◌∷◌}
-use Rattle.charts.specs.declared.parts.Fault.{Fault}
 use Rattle.runs.specs.declared.parts.Refusal.{Refusal}
 use Rattle.runs.specs.declared.parts.Refusal.TheVariants.{Spoiled, NoInstance, NothingLeft, MustWait, ShortBuffer, NoEvent, HasRun, NoFullOrder}
 

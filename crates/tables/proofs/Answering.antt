@@ -8,7 +8,7 @@ use Rattle.charts.specs.declared.parts.Fault.{Fault}
 use Rattle.charts.specs.declared.parts.Summary.{Summary}
 use Rattle.charts.specs.Events.{no_event}
 use Rattle.charts.specs.Lists.{column, count_of, event_of}
-use Rattle.charts.specs.Span.{above, span_of, span}
+use Rattle.charts.specs.Span.{above, span_of}
 use Rattle.charts.specs.Judged.{summed, unspoiled}
 use Rattle.checks.specs.Cut.{cut}
 use Rattle.checks.specs.Checked.{checked}

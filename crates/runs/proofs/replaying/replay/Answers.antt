@@ -1,7 +1,6 @@
-use Rattle.std.proofs.Common.{◌≡◌, ℕ, ◌≤◌, List, [], length, get_or, Option, sym, refl, ap, ◌∙◌, subst, subst₂, arith}
+use Rattle.std.proofs.Common.{List, [], get_or, Option, refl, ap, ◌∙◌, subst, subst₂, arith}
 use Rattle.charts.specs.declared.parts.Event.{Event}
 use Rattle.charts.specs.declared.parts.Fault.{Fault}
-use Rattle.media.specs.Carry.{Carry}
 use Rattle.copies.specs.declared.indexed.Indexed.{Indexed}
 use Rattle.copies.specs.Kept.{kept}
 use Rattle.copies.proofs.Kept.{kept_sound}

@@ -2,7 +2,7 @@ use Rattle.std.proofs.Common.{length, sym, ap, ◌∙◌, arith}
 use Rattle.copies.specs.Kept.{kept}
 use Rattle.copies.proofs.Kept.{kept_sound}
 use Rattle.rules.specs.Held.{held_now}
-use Rattle.rules.proofs.Drove.{turns_stop, turns_all, turn_more, turn_stop, fits_byte}
+use Rattle.rules.proofs.Drove.{turns_stop, turn_more, turn_stop, fits_byte}
 use Rattle.rules.proofs.board.Board.drive.Goals as goal
 
 pub returns-in_default : goal.returns-in_default

@@ -1,4 +1,4 @@
-use Rattle.std.proofs.Common.{sym, ◌∙◌, arith, below_more}
+use Rattle.std.proofs.Common.{sym, ◌∙◌, arith}
 use Rattle.copies.specs.Kept.{kept}
 use Rattle.rules.specs.Places.{place_of}
 use Rattle.rules.specs.Held.{held_now}

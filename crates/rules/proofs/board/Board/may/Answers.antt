@@ -1,9 +1,8 @@
-use Rattle.std.proofs.Common.{◌≡◌, Bool, ◌&&◌, List, length, sym, ap, ◌∙◌}
+use Rattle.std.proofs.Common.{Bool, ◌&&◌, length, sym, ap, ◌∙◌}
 use Rattle.std.proofs.lemmas.Bool.{lt-ltb}
 use Rattle.charts.specs.Lists.{event_of}
 use Rattle.orders.specs.Deciding.{may_run}
 use Rattle.copies.specs.Kept.{kept}
-use Rattle.copies.specs.declared.parts.Slot.{Slot}
 use Rattle.copies.proofs.Kept.{kept_sound}
 use Rattle.rules.specs.Places.{place_of, sent_of}
 use Rattle.rules.specs.Rules.{slot_may}

@@ -1,14 +1,12 @@
-use Rattle.std.proofs.Common.{◌≡◌, ℕ, suc, ◌+◌, ◌<◌, ◌≤◌, List, length, None, sym, refl, ap, ◌∙◌, subst, arith}
-use Rattle.charts.specs.Lists.{size}
+use Rattle.std.proofs.Common.{ℕ, ◌+◌, ◌<◌, length, sym, ap, ◌∙◌, subst}
 use Rattle.copies.specs.declared.indexed.Indexed.{Indexed}
 use Rattle.copies.specs.Kept.{kept}
 use Rattle.copies.proofs.Kept.{kept_sound}
 use Rattle.orders.specs.Deciding.{unfinished}
-use Rattle.orders.specs.Driving.{lowest, moved_by, driven, other_now}
-use Rattle.orders.proofs.Driving.{driven_most}
+use Rattle.orders.specs.Driving.{lowest}
 use Rattle.rules.specs.Places.{place_of}
-use Rattle.rules.specs.Held.{held_now, some_below}
-use Rattle.rules.proofs.Made.{made_most, made_length}
+use Rattle.rules.specs.Held.{some_below}
+use Rattle.rules.proofs.Made.{made_length}
 use Rattle.rules.proofs.Drove.{below_some, below_none}
 use Rattle.runs.specs.Latests.{LatestAnswers}
 use Rattle.runs.proofs.Telling.{tells_sound}

@@ -1,4 +1,3 @@
-use Rattle.std.proofs.Common.{arith}
 use Rattle.copies.specs.Kept.{kept}
 use Rattle.rules.specs.Places.{place_of}
 use Rattle.runs.proofs.Judging.{made_within, left_is}
