@@ -25,7 +25,7 @@ fn an_empty_text_is_an_empty_table(rt: HostRuntime) -> Result<(), Fail> {
 #[test]
 fn a_table_is_read(rt: HostRuntime) -> Result<(), Fail> {
     let table = read(rt.alloc(), b"1 0 65535\n1 255 17\n\n03 0 0065535")?;
-    assert_eq!(rt; table.lengths.as_slice(), &[1, 0, 65535]);
+    assert_eq!(rt; table.lengths.as_slice(), [1, 0, 65535].as_slice());
     let events = [
         Event {
             kind: OUTPUT,
@@ -38,7 +38,7 @@ fn a_table_is_read(rt: HostRuntime) -> Result<(), Fail> {
             number: 65535,
         },
     ];
-    assert_eq!(rt; table.events.as_slice(), &events);
+    assert_eq!(rt; table.events.as_slice(), events.as_slice());
     Ok(())
 }
 
