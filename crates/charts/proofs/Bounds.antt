@@ -1,7 +1,7 @@
 -- What any chart answers is small.
 use Rattle.std.proofs.Common.{◌≡◌, ℕ, ◌<◌, ◌≤◌, List, [], length, Some, None, Option, refl, ap, inl, inr, arith}
 use Rattle.std.proofs.lemmas.List.{get_or_past}
-use Rattle.std.proofs.lemmas.List.Sums.{get_or-le-sum_by as get_or_le_sum_by}
+use Rattle.std.proofs.lemmas.List.Sums.{get_or-le-sum_by}
 use Rattle.std.proofs.lemmas.Bool.{cases_lt, cases_eq}
 use Rattle.charts.specs.declared.parts.Event.{Event}
 use Rattle.charts.specs.declared.parts.Fault.{Fault}
@@ -15,7 +15,7 @@ use Rattle.charts.proofs.Spans.{sound_span}
 pub count_size : (L : List (List Event)) (i : ℕ) → count_of L i ≤ size L
 count_size L i =
     elim (cases_lt i (length L))
-    [ inl l ↦ get_or_le_sum_by length L i [] l | inr l ↦ let z = ap length (get_or_past L i [] l) in omega arith ]
+    [ inl l ↦ get_or-le-sum_by length L i [] l | inr l ↦ let z = ap length (get_or_past L i [] l) in omega arith ]
 
 -- past its count an instance has no event
 pub past_count : (L : List (List Event)) (i k : ℕ) → count_of L i ≤ k → event_of L i k ≡ no_event

@@ -7,7 +7,7 @@ use Rattle.charts.specs.Events.{environment, is_message, no_event}
 use Rattle.charts.specs.Lists.{column, count_of, event_of}
 use Rattle.charts.specs.Sound.{Sound}
 use Rattle.charts.proofs.Bounds.{peer_small}
-use Rattle.std.specs.List.{AllByRecursion as All}
+use Rattle.std.specs.List.{AllByRecursion}
 use Rattle.std.proofs.ByRecursion.{All-from_get_or}
 use Rattle.charts.specs.Span.{span}
 use Rattle.joining.specs.Moves.{risen, named, moved}
@@ -102,11 +102,11 @@ fine_at M s i k l =
     elim (cases_eq (event_of M i k).peer environment)
     [ inl y ↦ inl y | inr n ↦ inr (peer_small M i k None s n) ]
 
-fine_all : (M : List (List Event)) → Sound M → All (All Fine) M
+fine_all : (M : List (List Event)) → Sound M → AllByRecursion (AllByRecursion Fine) M
 fine_all M s =
-    All-from_get_or (All Fine) M [] (λ i l. All-from_get_or Fine (column M i) no_event (λ k h. fine_at M s i k h))
+    All-from_get_or (AllByRecursion Fine) M [] (λ i l. All-from_get_or Fine (column M i) no_event (λ k h. fine_at M s i k h))
 
-map_twice_where : {X : Type 0} (P : X → Type 0) (f g h : X → X) → ((x : X) → P x → f (g x) ≡ h x) → (xs : List X) → All P xs → map f (map g xs) ≡ map h xs
+map_twice_where : {X : Type 0} (P : X → Type 0) (f g h : X → X) → ((x : X) → P x → f (g x) ≡ h x) → (xs : List X) → AllByRecursion P xs → map f (map g xs) ≡ map h xs
 map_twice_where P f g h e [] a = refl
 map_twice_where P f g h e (x ∷ xs) a = ap₂ ◌∷◌ (e x a.0) (map_twice_where P f g h e xs a.1)
 
@@ -138,5 +138,5 @@ beside_regrouped L K M sk sm =
     append_assoc L (map (map g) K) (map (map both) M) ∙
     ap (λ (X : List (List Event)). L ++ X)
     (ap (λ (X : List (List Event)). map (map g) K ++ X)
-    (sym (map_twice_where (All Fine) (map g) (map h) (map both) (λ es a. map_twice_where Fine g h both (λ e p. shifted_twice w v s r e few p) es a) M (fine_all M sm))) ∙
+    (sym (map_twice_where (AllByRecursion Fine) (map g) (map h) (map both) (λ es a. map_twice_where Fine g h both (λ e p. shifted_twice w v s r e few p) es a) M (fine_all M sm))) ∙
     sym (map-append (map g) K (map (map h) M)))

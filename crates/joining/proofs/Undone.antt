@@ -1,6 +1,6 @@
 -- A chart that is recast and then recast back is the same.
 use Rattle.std.proofs.Common.{◌≡◌, ℕ, ◌<◌, ◌≤◌, Bool, cond, ◌⊎◌, List, [], ◌∷◌, map, length, Some, None, sym, refl, ap, ◌∙◌, subst, ap₂, inl, inr, arith}
-use Rattle.std.specs.List.{AllByRecursion as All}
+use Rattle.std.specs.List.{AllByRecursion}
 use Rattle.std.proofs.ByRecursion.{All-from_get_or}
 use Rattle.std.proofs.lemmas.List.{ext_get_or}
 use Rattle.charts.specs.declared.parts.Event.{Event}
@@ -47,7 +47,7 @@ module _ (t b : List ℕ) (w : ℕ) (p : Permutes t w) (long : w ≤ length t) (
       let twice = ap (λ (x : Event). x.number) (moved_nowhere (λ i. i) (λ i. refl) d) in
       λ i. record { kind = e.kind; peer = peer i; number = (twice ∙ same) i }
 
-  column_back : (es : List Event) → w ≤ 32 → All (λ e. (e.peer ≡ environment) ⊎ (e.peer < w)) es → map (moved (to b) 0) (map (moved (to t) 0) es) ≡ es
+  column_back : (es : List Event) → w ≤ 32 → AllByRecursion (λ e. (e.peer ≡ environment) ⊎ (e.peer < w)) es → map (moved (to b) 0) (map (moved (to t) 0) es) ≡ es
   column_back [] few a = refl
   column_back (e ∷ es) few a = ap₂ ◌∷◌ (event_back e a.0 few) (column_back es few a.1)
 

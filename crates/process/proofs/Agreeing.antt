@@ -1,6 +1,6 @@
 -- The operational rules and the equations agree.
 use Rattle.process.specs.Actions.{Action}
-use Rattle.process.specs.Processes.{Process, ε, δ, act, ◌+◌, ◌·◌}
+use Rattle.process.specs.Processes.{Process, ε, δ, act, ◌⊕◌, ◌·◌}
 use Rattle.process.specs.Equations.{◌≈◌, A9, symmetric, transitive}
 use Rattle.process.specs.Allowed.{Allows, MayTerminate}
 use Rattle.process.specs.Rules.{Ends, empty, left_ends, Step, atom, left_steps, first_steps}
@@ -13,12 +13,12 @@ use Rattle.process.proofs.Deadlocks.{ended_is_empty, stuck_is_deadlock}
 -- a derivable step is one by the rules
 pub allowed_step : (p q : Process) (a : Action) → Allows p a q → (r : Process) × Step p a r × (r ≈ q)
 allowed_step p q a e =
-    let f = (follows p (act a · q + p) e).1 in
+    let f = (follows p (act a · q ⊕ p) e).1 in
     let s = f.steps a (ε · q) (left_steps (first_steps atom)) in
     (s.0, s.1, transitive (symmetric s.2) (A9 q))
 
 pub terminating_ends : (p : Process) → MayTerminate p → Ends p
-terminating_ends p e = (follows p (ε + p) e).1.ends (left_ends empty)
+terminating_ends p e = (follows p (ε ⊕ p) e).1.ends (left_ends empty)
 
 pub agreement : Agreement
 agreement =

@@ -1,6 +1,6 @@
 -- Processes that are derivably equal make the same steps, to derivably equal processes, and end alike.
 use Rattle.process.specs.Actions.{out, «in»}
-use Rattle.process.specs.Processes.{Messages, with_message, without_message, Process, ◌+◌, ◌·◌, ◌‖◌, ◌⌊◌, √, filter}
+use Rattle.process.specs.Processes.{Messages, with_message, without_message, Process, ◌⊕◌, ◌·◌, ◌‖◌, ◌⌊◌, √, filter}
 use Rattle.process.specs.Equations.{◌≈◌, A1, A2, A3, A4, A5, A6, A7, A8, A9, TM1, TM2, TM3, TM4, TM5, TE1, TE2, TE3, TE4}
 use Rattle.process.specs.Equations.{LM1, LM2, LM3, LM4, LM5, LM6, LM7, LM8, LM9}
 use Rattle.process.specs.Equations.{reflexive, symmetric, transitive, in_alternative, in_sequence, in_merge, in_left_merge, in_termination, in_filter}
@@ -21,15 +21,15 @@ ends_filter M x y f (filter_ends n e) = filter_ends n (f e)
 -- each operator keeps it
 module _ (x y : Process) (e : x ≈ y) (f : Follows x y) where
   module _ (u v : Process) (g : u ≈ v) (h : Follows u v) where
-    ends_alternative : EndsToo (x + u) (y + v)
+    ends_alternative : EndsToo (x ⊕ u) (y ⊕ v)
     ends_alternative (left_ends d) = left_ends (f.ends d)
     ends_alternative (right_ends d) = right_ends (h.ends d)
 
-    steps_alternative : StepsToo (x + u) (y + v)
+    steps_alternative : StepsToo (x ⊕ u) (y ⊕ v)
     steps_alternative a z (left_steps s) = let r = f.steps a z s in (r.0, left_steps r.1, r.2)
     steps_alternative a z (right_steps s) = let r = h.steps a z s in (r.0, right_steps r.1, r.2)
 
-    follows_alternative : Follows (x + u) (y + v)
+    follows_alternative : Follows (x ⊕ u) (y ⊕ v)
     follows_alternative = record { ends = ends_alternative; steps = steps_alternative }
 
     ends_sequence : EndsToo (x · u) (y · v)

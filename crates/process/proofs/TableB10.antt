@@ -2,7 +2,7 @@
 use Rattle.std.proofs.Common.{◌≡◌, ℕ, true, false, sym, refl, ap, ◌∙◌, arith}
 use Rattle.std.proofs.lemmas.Bool.{both_ways}
 use Rattle.process.specs.Actions.{Action, out, «in», out_env, in_env, local, between}
-use Rattle.process.specs.Processes.{Messages, Empty, with_message, without_message, Process, ε, δ, act, ◌+◌, ◌·◌, filter}
+use Rattle.process.specs.Processes.{Messages, Empty, with_message, without_message, Process, ε, δ, act, ◌⊕◌, ◌·◌, filter}
 use Rattle.process.specs.Equations.{◌≈◌, A9}
 use Rattle.process.specs.Equations.{reflexive, symmetric, transitive, in_filter}
 use Rattle.process.specs.Rules.{Ends, left_ends, right_ends, filter_ends}
@@ -105,15 +105,15 @@ steps_LM8 M i j m x n b w (filter_sends {z = z} {i = k} {j = l} {m = q} p s) =
 steps_LM8 M i j m x n b w (filter_takes {z = z} {i = k} {j = l} {m = q} p s) =
     absurd (both_ways (M m) n (sym (ap (λ (c : Action). M (message c)) (prefix_step («in» i j m) x («in» k l q) z s).0) ∙ p))
 
-ends_LM9 : (M : Messages) (x y : Process) → EndsToo (filter M (x + y)) (filter M x + filter M y)
+ends_LM9 : (M : Messages) (x y : Process) → EndsToo (filter M (x ⊕ y)) (filter M x ⊕ filter M y)
 ends_LM9 M x y (filter_ends n (left_ends e)) = left_ends (filter_ends n e)
 ends_LM9 M x y (filter_ends n (right_ends e)) = right_ends (filter_ends n e)
 
-ends_LM9_back : (M : Messages) (x y : Process) → EndsToo (filter M x + filter M y) (filter M (x + y))
+ends_LM9_back : (M : Messages) (x y : Process) → EndsToo (filter M x ⊕ filter M y) (filter M (x ⊕ y))
 ends_LM9_back M x y (left_ends (filter_ends n e)) = filter_ends n (left_ends e)
 ends_LM9_back M x y (right_ends (filter_ends n e)) = filter_ends n (right_ends e)
 
-steps_LM9 : (M : Messages) (x y : Process) → StepsToo (filter M (x + y)) (filter M x + filter M y)
+steps_LM9 : (M : Messages) (x y : Process) → StepsToo (filter M (x ⊕ y)) (filter M x ⊕ filter M y)
 steps_LM9 M x y a w (filter_passes p (left_steps s)) = (w, left_steps (filter_passes p s), reflexive w)
 steps_LM9 M x y a w (filter_passes p (right_steps s)) = (w, right_steps (filter_passes p s), reflexive w)
 steps_LM9 M x y a w (filter_sends p (left_steps s)) = (w, left_steps (filter_sends p s), reflexive w)
@@ -121,7 +121,7 @@ steps_LM9 M x y a w (filter_sends p (right_steps s)) = (w, right_steps (filter_s
 steps_LM9 M x y a w (filter_takes p (left_steps s)) = (w, left_steps (filter_takes p s), reflexive w)
 steps_LM9 M x y a w (filter_takes p (right_steps s)) = (w, right_steps (filter_takes p s), reflexive w)
 
-steps_LM9_back : (M : Messages) (x y : Process) → StepsToo (filter M x + filter M y) (filter M (x + y))
+steps_LM9_back : (M : Messages) (x y : Process) → StepsToo (filter M x ⊕ filter M y) (filter M (x ⊕ y))
 steps_LM9_back M x y a w (left_steps (filter_passes p s)) = (w, filter_passes p (left_steps s), reflexive w)
 steps_LM9_back M x y a w (left_steps (filter_sends p s)) = (w, filter_sends p (left_steps s), reflexive w)
 steps_LM9_back M x y a w (left_steps (filter_takes p s)) = (w, filter_takes p (left_steps s), reflexive w)
@@ -166,6 +166,6 @@ pub alike_LM8 : (M : Messages) (i j m : ℕ) (x : Process) → M m ≡ false →
 alike_LM8 M i j m x n =
     (endless (filter M (act («in» i j m) · x)) δ (no_end_filter M («in» i j m) x) (steps_LM8 M i j m x n), nothing (filter M (act («in» i j m) · x)))
 
-pub alike_LM9 : (M : Messages) (x y : Process) → Alike (filter M (x + y)) (filter M x + filter M y)
+pub alike_LM9 : (M : Messages) (x y : Process) → Alike (filter M (x ⊕ y)) (filter M x ⊕ filter M y)
 alike_LM9 M x y =
     (record { ends = ends_LM9 M x y; steps = steps_LM9 M x y }, record { ends = ends_LM9_back M x y; steps = steps_LM9_back M x y })

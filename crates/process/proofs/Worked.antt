@@ -3,7 +3,7 @@ use Rattle.std.proofs.Common.{◌≡◌, ℕ, Bool, true, false, not, ◌&&◌, 
 use mathlib.Core.Path.{fun_ext}
 use Rattle.std.proofs.lemmas.Bool.{eq-eqb, ne_eqb, eqb-true, or_left, or_right, or_from}
 use Rattle.process.specs.Actions.{out, «in»}
-use Rattle.process.specs.Processes.{Messages, none, with_message, without_message, Process, ε, δ, act, ◌+◌, ◌·◌, ◌‖◌, √, filter}
+use Rattle.process.specs.Processes.{Messages, none, with_message, without_message, Process, ε, δ, act, ◌⊕◌, ◌·◌, ◌‖◌, √, filter}
 use Rattle.process.specs.Equations.{◌≈◌, A1, A5, A6, A8, TM1, LM1, LM3, LM6, LM7, LM8, LM9}
 use Rattle.process.specs.Equations.{reflexive, symmetric, transitive, in_alternative, in_sequence, in_merge, in_filter}
 use Rattle.process.specs.Examples.{OutputThenInput, OutputMergedWithInput, ThreeInstancesMerged, ThreeInstancesChart, Examples}
@@ -68,11 +68,11 @@ output_merged_with_input i j m =
           (transitive (TM1 o n)
           (in_alternative (in_alternative (action_left_merge (out i j m) («in» i j m)) (action_left_merge («in» i j m) (out i j m))) (reflexive (√ o · √ n)))),
       (
-        transitive (LM9 none (o · n + n · o) (√ o · √ n))
+        transitive (LM9 none (o · n ⊕ n · o) (√ o · √ n))
             (in_alternative (LM9 none (o · n) (n · o)) (transitive (in_filter none (action_no_end (out i j m) n)) (LM3 none))),
         (
           in_alternative (in_alternative (sends_and_takes i j m) (input_first i j m o)) (reflexive δ),
-          (transitive (A6 (o · n + δ)) (A6 (o · n)), tt),
+          (transitive (A6 (o · n ⊕ δ)) (A6 (o · n)), tt),
         ),
       ),
     )
@@ -85,15 +85,15 @@ module _ (m n : ℕ) where
       let b = out 0 2 n in
       let c = «in» 0 1 m in
       let d = «in» 0 2 n in
-      let w = act c · act d + act d · act c in
+      let w = act c · act d ⊕ act d · act c in
       let rest : act c · ε ‖ (act d · ε ‖ ε) ≈ w = transitive (in_merge (reflexive (act c · ε)) (single_empty d)) (singles c d) in
-      let later : act b · ε ‖ w ≈ act c · (act b · act d + act d · act b) + act b · w + act d · (act c · act b + act b · act c) =
+      let later : act b · ε ‖ w ≈ act c · (act b · act d ⊕ act d · act b) ⊕ act b · w ⊕ act d · (act c · act b ⊕ act b · act c) =
       transitive (one_and_sum b c d ε (act d) (act c))
       (in_alternative
       (transitive
       (in_alternative (in_sequence (reflexive (act b)) (empty_sum c d (act d) (act c) (action_empty d) (action_empty c)))
       (in_sequence (reflexive (act c)) (transitive (action_single d b) (A1 (act d · act b) (act b · act d)))))
-      (A1 (act b · w) (act c · (act b · act d + act d · act b))))
+      (A1 (act b · w) (act c · (act b · act d ⊕ act d · act b))))
       (in_sequence (reflexive (act d)) (action_single c b))) in
       transitive (in_merge (reflexive (act a · (act b · ε))) rest)
       (transitive (one_and_sum a c d (act b · ε) (act d) (act c))
@@ -108,8 +108,8 @@ module _ (m n : ℕ) where
     m_not_in = or_from (eqb m n) false (ne_eqb m n other) refl
 
     -- the two inputs, with both messages on the way
-    both_inputs : filter (with_message (with_message none m) n) (act («in» 0 1 m) · act («in» 0 2 n) + act («in» 0 2 n) · act («in» 0 1 m)) ≈
-        act («in» 0 1 m) · act («in» 0 2 n) + act («in» 0 2 n) · act («in» 0 1 m)
+    both_inputs : filter (with_message (with_message none m) n) (act («in» 0 1 m) · act («in» 0 2 n) ⊕ act («in» 0 2 n) · act («in» 0 1 m)) ≈
+        act («in» 0 1 m) · act («in» 0 2 n) ⊕ act («in» 0 2 n) · act («in» 0 1 m)
     both_inputs =
         let c = act («in» 0 1 m) in
         let d = act («in» 0 2 n) in
@@ -123,7 +123,7 @@ module _ (m n : ℕ) where
         (in_sequence (reflexive d) (subst (λ (N : Messages). filter N c ≈ c) (sym (without_with (with_message none m) n n_not_in)) (only_input 0 1 m)))))
 
     -- message n alone, after the input of m
-    after_input : filter none (act (out 0 2 n) · act («in» 0 2 n) + act («in» 0 2 n) · act (out 0 2 n)) ≈ act (out 0 2 n) · act («in» 0 2 n)
+    after_input : filter none (act (out 0 2 n) · act («in» 0 2 n) ⊕ act («in» 0 2 n) · act (out 0 2 n)) ≈ act (out 0 2 n) · act («in» 0 2 n)
     after_input =
         let b = act (out 0 2 n) in
         let d = act («in» 0 2 n) in
@@ -132,22 +132,22 @@ module _ (m n : ℕ) where
     -- after the output of m
     after_output : (x : Process) →
         filter (with_message none m)
-        (act («in» 0 1 m) · (act (out 0 2 n) · act («in» 0 2 n) + act («in» 0 2 n) · act (out 0 2 n)) +
-        act (out 0 2 n) · (act («in» 0 1 m) · act («in» 0 2 n) + act («in» 0 2 n) · act («in» 0 1 m)) + act («in» 0 2 n) · x) ≈
-        act («in» 0 1 m) · act (out 0 2 n) · act («in» 0 2 n) + act (out 0 2 n) · (act («in» 0 1 m) · act («in» 0 2 n) + act («in» 0 2 n) · act («in» 0 1 m))
+        (act («in» 0 1 m) · (act (out 0 2 n) · act («in» 0 2 n) ⊕ act («in» 0 2 n) · act (out 0 2 n)) ⊕
+        act (out 0 2 n) · (act («in» 0 1 m) · act («in» 0 2 n) ⊕ act («in» 0 2 n) · act («in» 0 1 m)) ⊕ act («in» 0 2 n) · x) ≈
+        act («in» 0 1 m) · act (out 0 2 n) · act («in» 0 2 n) ⊕ act (out 0 2 n) · (act («in» 0 1 m) · act («in» 0 2 n) ⊕ act («in» 0 2 n) · act («in» 0 1 m))
     after_output x =
         let b = act (out 0 2 n) in
         let c = act («in» 0 1 m) in
         let d = act («in» 0 2 n) in
         let M = with_message none m in
-        let p = b · d + d · b in
-        let w = c · d + d · c in
+        let p = b · d ⊕ d · b in
+        let w = c · d ⊕ d · c in
         let first : filter M (c · p) ≈ c · b · d =
         transitive (LM7 M 0 1 m p (has none m))
         (transitive (in_sequence (reflexive c) (subst (λ (N : Messages). filter N p ≈ b · d) (sym (without_with none m refl)) after_input)) (symmetric (A5 c b d))) in
         let second : filter M (b · w) ≈ b · w = transitive (LM6 M 0 2 n w n_not_in) (in_sequence (reflexive b) both_inputs) in
-        transitive (LM9 M (c · p + b · w) (d · x))
-        (transitive (in_alternative (transitive (LM9 M (c · p) (b · w)) (in_alternative first second)) (LM8 M 0 2 n x n_not_in)) (A6 (c · b · d + b · w)))
+        transitive (LM9 M (c · p ⊕ b · w) (d · x))
+        (transitive (in_alternative (transitive (LM9 M (c · p) (b · w)) (in_alternative first second)) (LM8 M 0 2 n x n_not_in)) (A6 (c · b · d ⊕ b · w)))
 
     three_instances_chart : ThreeInstancesChart m n
     three_instances_chart =
@@ -155,18 +155,18 @@ module _ (m n : ℕ) where
         let b = act (out 0 2 n) in
         let c = act («in» 0 1 m) in
         let d = act («in» 0 2 n) in
-        let x = c · (b · d + d · b) + b · (c · d + d · c) + d · (c · b + b · c) in
-        let y = a · (d · b + b · d) + d · a · b in
-        let z = a · (c · b + b · c) + c · a · b in
-        let e = c · b · d + b · (c · d + d · c) in
+        let x = c · (b · d ⊕ d · b) ⊕ b · (c · d ⊕ d · c) ⊕ d · (c · b ⊕ b · c) in
+        let y = a · (d · b ⊕ b · d) ⊕ d · a · b in
+        let z = a · (c · b ⊕ b · c) ⊕ c · a · b in
+        let e = c · b · d ⊕ b · (c · d ⊕ d · c) in
         transitive (in_filter none three_instances_merged)
-        (transitive (LM9 none (a · x + c · y) (d · z))
+        (transitive (LM9 none (a · x ⊕ c · y) (d · z))
         (transitive
         (in_alternative
         (transitive (LM9 none (a · x) (c · y))
-        (in_alternative (transitive (LM6 none 0 1 m x refl) (in_sequence (reflexive a) (after_output (c · b + b · c)))) (input_first 0 1 m y)))
+        (in_alternative (transitive (LM6 none 0 1 m x refl) (in_sequence (reflexive a) (after_output (c · b ⊕ b · c)))) (input_first 0 1 m y)))
         (input_first 0 2 n z))
-        (transitive (A6 (a · e + δ)) (A6 (a · e)))))
+        (transitive (A6 (a · e ⊕ δ)) (A6 (a · e)))))
 
 pub examples : Examples
 examples =

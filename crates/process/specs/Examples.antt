@@ -3,7 +3,7 @@ use Rattle.std.specs.Prelude.{ℕ, List, [], ◌∷◌, ◌≢◌}
 use Rattle.charts.specs.declared.parts.Event.{Event}
 use Rattle.charts.specs.Events.{event, output, input}
 use Rattle.process.specs.Actions.{out, «in»}
-use Rattle.process.specs.Processes.{none, with_message, Process, ε, δ, act, ◌+◌, ◌·◌, ◌‖◌, √, filter}
+use Rattle.process.specs.Processes.{none, with_message, Process, ε, δ, act, ◌⊕◌, ◌·◌, ◌‖◌, √, filter}
 use Rattle.process.specs.Equations.{◌≈◌}
 use Rattle.process.specs.ChartProcess.{merge, chart}
 
@@ -30,7 +30,7 @@ OutputMergedWithInput i j m =
     let o = act (out i j m) in
     let n = act («in» i j m) in
     Calculation (filter none (o ‖ n))
-    (filter none (o · n + n · o + √ o · √ n) ∷ filter none (o · n) + filter none (n · o) + δ ∷ o · n + δ + δ ∷ o · n ∷ [])
+    (filter none (o · n ⊕ n · o ⊕ √ o · √ n) ∷ filter none (o · n) ⊕ filter none (n · o) ⊕ δ ∷ o · n ⊕ δ ⊕ δ ∷ o · n ∷ [])
 
 -- Example B.4.4.7: instance 0 outputs m to instance 1 and n to instance 2, which input them
 abbrev pub three_instances : ℕ → ℕ → List (List Event)
@@ -44,9 +44,9 @@ ThreeInstancesMerged m n =
     let in_m = act («in» 0 1 m) in
     let in_n = act («in» 0 2 n) in
     merge 0 (three_instances m n) ≈
-    out_m · (in_m · (out_n · in_n + in_n · out_n) + out_n · (in_m · in_n + in_n · in_m) + in_n · (in_m · out_n + out_n · in_m)) +
-    in_m · (out_m · (in_n · out_n + out_n · in_n) + in_n · out_m · out_n) +
-    in_n · (out_m · (in_m · out_n + out_n · in_m) + in_m · out_m · out_n)
+    out_m · (in_m · (out_n · in_n ⊕ in_n · out_n) ⊕ out_n · (in_m · in_n ⊕ in_n · in_m) ⊕ in_n · (in_m · out_n ⊕ out_n · in_m)) ⊕
+    in_m · (out_m · (in_n · out_n ⊕ out_n · in_n) ⊕ in_n · out_m · out_n) ⊕
+    in_n · (out_m · (in_m · out_n ⊕ out_n · in_m) ⊕ in_m · out_m · out_n)
 
 abbrev pub ThreeInstancesChart : ℕ → ℕ → Type 0
 ThreeInstancesChart m n =
@@ -54,7 +54,7 @@ ThreeInstancesChart m n =
     let out_n = act (out 0 2 n) in
     let in_m = act («in» 0 1 m) in
     let in_n = act («in» 0 2 n) in
-    chart (three_instances m n) ≈ out_m · (in_m · out_n · in_n + out_n · (in_m · in_n + in_n · in_m))
+    chart (three_instances m n) ≈ out_m · (in_m · out_n · in_n ⊕ out_n · (in_m · in_n ⊕ in_n · in_m))
 
 pub record Examples : Type 0 where
   pub output_then_input : (i j m : ℕ) → OutputThenInput i j m

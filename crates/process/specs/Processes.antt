@@ -22,7 +22,7 @@ without_message M m = λ n. not (n == m) && M n
 abbrev pub Empty : Messages → Type 0
 Empty M = (m : ℕ) → M m ≡ false
 
-infixl 70 ◌+◌
+infixl 70 ◌⊕◌
 infixl 75 ◌‖◌ ◌⌊◌
 infixl 80 ◌·◌
 pub data Process : Type 0 where
@@ -32,8 +32,8 @@ pub data Process : Type 0 where
   δ : Process
   -- an atomic action
   act : Action → Process
-  -- alternative composition
-  ◌+◌ : Process → Process → Process
+  -- alternative composition, + in the Annex
+  ◌⊕◌ : Process → Process → Process
   -- sequential composition
   ◌·◌ : Process → Process → Process
   -- free merge

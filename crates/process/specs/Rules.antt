@@ -1,13 +1,13 @@
 -- The operational rules: which steps a process makes, and when it ends.
 use Rattle.std.specs.Prelude.{◌≡◌, ℕ, true, false}
 use Rattle.process.specs.Actions.{Action, out, «in», between}
-use Rattle.process.specs.Processes.{Messages, Empty, with_message, without_message, Process, ε, act, ◌+◌, ◌·◌, ◌‖◌, ◌⌊◌, √, filter}
+use Rattle.process.specs.Processes.{Messages, Empty, with_message, without_message, Process, ε, act, ◌⊕◌, ◌·◌, ◌‖◌, ◌⌊◌, √, filter}
 
 -- the process can end at once
 pub data Ends : Process → Type 0 where
   empty : Ends ε
-  left_ends : {x y : Process} → Ends x → Ends (x + y)
-  right_ends : {x y : Process} → Ends y → Ends (x + y)
+  left_ends : {x y : Process} → Ends x → Ends (x ⊕ y)
+  right_ends : {x y : Process} → Ends y → Ends (x ⊕ y)
   both_end : {x y : Process} → Ends x → Ends y → Ends (x · y)
   merge_ends : {x y : Process} → Ends x → Ends y → Ends (x ‖ y)
   test_ends : {x : Process} → Ends x → Ends (√ x)
@@ -17,8 +17,8 @@ pub data Ends : Process → Type 0 where
 -- that is what the left merge of TM1 and TM4 gives
 pub data Step : Process → Action → Process → Type 0 where
   atom : {a : Action} → Step (act a) a ε
-  left_steps : {x y z : Process} {a : Action} → Step x a z → Step (x + y) a z
-  right_steps : {x y z : Process} {a : Action} → Step y a z → Step (x + y) a z
+  left_steps : {x y z : Process} {a : Action} → Step x a z → Step (x ⊕ y) a z
+  right_steps : {x y z : Process} {a : Action} → Step y a z → Step (x ⊕ y) a z
   first_steps : {x y z : Process} {a : Action} → Step x a z → Step (x · y) a (z · y)
   second_steps : {x y z : Process} {a : Action} → Ends x → Step y a z → Step (x · y) a z
   merge_left_steps : {x y z : Process} {a : Action} → Step x a z → Step (x ‖ y) a (z ‖ y)

@@ -1,6 +1,6 @@
 -- A table that is written out and read is the table.
 use Rattle.std.proofs.Common.{◌≡◌, ℕ, ◌+◌, ◌-◌, ◌*◌, ◌^◌, ◌<◌, ◌≤◌, true, false, eqb, leb, List, [], ◌∷◌, ◌++◌, map, length, Some, None, Ok, decimal, Result, sym, refl, ap, ◌∙◌, subst, arith, length-append, rules}
-use Rattle.std.specs.List.{AllByRecursion as All}
+use Rattle.std.specs.List.{AllByRecursion}
 use Rattle.std.specs.Str.{all_ascii_digits}
 use Rattle.std.proofs.lemmas.Bool.{and_parts, cond-true, cond-false, le-leb, ne_eqb, both_ways}
 use Rattle.std.proofs.lemmas.Str.Parse.{IsNumeralModel, numerals_by_fold, tells_all_ascii_digits}
@@ -41,7 +41,7 @@ number_back m n small h =
 
 -- no byte is s
 abbrev Lacks : ℕ → List ℕ → Type 0
-Lacks s bs = All (λ b. b ≡ s → ⊥) bs
+Lacks s bs = AllByRecursion (λ b. b ≡ s → ⊥) bs
 
 lacks_digits : (s : ℕ) (bs : List ℕ) → is_digit s ≡ false → all_ascii_digits bs ≡ true → Lacks s bs
 lacks_digits s [] f h = tt
@@ -53,7 +53,7 @@ lacks_append : (s : ℕ) (xs ys : List ℕ) → Lacks s xs → Lacks s ys → La
 lacks_append s [] ys h k = k
 lacks_append s (x ∷ xs) ys h k = (h.0, lacks_append s xs ys h.1 k)
 
-lacks_spaced : (s : ℕ) (ws : List (List ℕ)) → (32 ≡ s → ⊥) → All (Lacks s) ws → Lacks s (spaced ws)
+lacks_spaced : (s : ℕ) (ws : List (List ℕ)) → (32 ≡ s → ⊥) → AllByRecursion (Lacks s) ws → Lacks s (spaced ws)
 lacks_spaced s [] n h = tt
 lacks_spaced s (w ∷ []) n h = h.0
 lacks_spaced s (w ∷ v ∷ vs) n h = lacks_append s w (32 ∷ spaced (v ∷ vs)) h.0 (n, lacks_spaced s (v ∷ vs) n h.1)
@@ -70,7 +70,7 @@ cut_last s [] h = refl
 cut_last s (b ∷ w) h =
     cond-false (eqb b s) ([] ∷ pieces s w) (before b (pieces s w)) (ne_eqb b s h.0) ∙ ap (before b) (cut_last s w h.1)
 
-fields_back : (w : List ℕ) (ws : List (List ℕ)) → All (Lacks 32) (w ∷ ws) → pieces 32 (spaced (w ∷ ws)) ≡ w ∷ ws
+fields_back : (w : List ℕ) (ws : List (List ℕ)) → AllByRecursion (Lacks 32) (w ∷ ws) → pieces 32 (spaced (w ∷ ws)) ≡ w ∷ ws
 fields_back w [] h = cut_last 32 w h.0
 fields_back w (v ∷ vs) h = cut_word 32 w (spaced (v ∷ vs)) h.0 ∙ ap (λ ps. w ∷ ps) (fields_back v vs h.1)
 
@@ -79,9 +79,9 @@ lacks_decimal : (s n : ℕ) → is_digit s ≡ false → n < 2 ^ 64 → Lacks s 
 lacks_decimal s n f small = lacks_digits s (decimal n) f (digits_decimal own n small)
 
 abbrev Small : List ℕ → Type 0
-Small ns = All (λ n. n < 65536) ns
+Small ns = AllByRecursion (λ n. n < 65536) ns
 
-lacks_all : (s : ℕ) (ns : List ℕ) → is_digit s ≡ false → Small ns → All (Lacks s) (map decimal ns)
+lacks_all : (s : ℕ) (ns : List ℕ) → is_digit s ≡ false → Small ns → AllByRecursion (Lacks s) (map decimal ns)
 lacks_all s [] f h = tt
 lacks_all s (n ∷ ns) f h = (lacks_decimal s n f (let l = h.0 in omega arith), lacks_all s ns f h.1)
 
@@ -108,7 +108,7 @@ lengths_back (n ∷ ns) h =
     ∙ ap lengths_in (fields_back (decimal n) (map decimal ns) (lacks_all 32 (n ∷ ns) refl h))
     ∙ lengths_in_lem (n ∷ ns) h
 
-lacks_row : (s : ℕ) (e : Event) → is_digit s ≡ false → FitsEvent e → All (Lacks s) (decimal e.kind ∷ decimal e.peer ∷ decimal e.number ∷ [])
+lacks_row : (s : ℕ) (e : Event) → is_digit s ≡ false → FitsEvent e → AllByRecursion (Lacks s) (decimal e.kind ∷ decimal e.peer ∷ decimal e.number ∷ [])
 lacks_row s e f h = (
   lacks_decimal s e.kind f (omega arith),
   (lacks_decimal s e.peer f (omega arith), (lacks_decimal s e.number f (omega arith), tt)),
@@ -119,7 +119,7 @@ event_back e h =
     ap event_in (fields_back (decimal e.kind) (decimal e.peer ∷ decimal e.number ∷ []) (lacks_row 32 e refl h))
     ∙ rw (number_back 255 e.kind (omega arith) (omega arith), number_back 255 e.peer (omega arith) (omega arith), number_back 65535 e.number (omega arith) (omega arith)) refl
 
-rows_back : (k : ℕ) (es : List Event) → All FitsEvent es → events_from k (lines (rows es)) ≡ Ok es
+rows_back : (k : ℕ) (es : List Event) → AllByRecursion FitsEvent es → events_from k (lines (rows es)) ≡ Ok es
 rows_back k [] h = refl
 rows_back k (e ∷ es) h =
     let kind = h.0.kind in

@@ -1,6 +1,6 @@
 -- A table written out: the lengths on the first line, and then each event on a line of its own.
 use Rattle.std.specs.Prelude.{ℕ, ◌<◌, List, [], ◌∷◌, ◌++◌, map, decimal}
-use Rattle.std.specs.List.{AllByRecursion as All}
+use Rattle.std.specs.List.{AllByRecursion}
 use Rattle.charts.specs.declared.parts.Event.{Event}
 use Rattle.listings.specs.Lines.{spaced}
 use Rattle.tabletexts.specs.Table.{Table}
@@ -26,5 +26,5 @@ pub record FitsEvent (e : Event) : Type 0 where
 
 -- the numbers of a table fit their fields
 pub record FitsTable (t : Table) : Type 0 where
-  pub lengths : All (λ n. n < 65536) t.lengths
-  pub events : All FitsEvent t.events
+  pub lengths : AllByRecursion (λ n. n < 65536) t.lengths
+  pub events : AllByRecursion FitsEvent t.events
