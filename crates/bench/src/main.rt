@@ -70,12 +70,12 @@ fn run(rt: &HostRuntime) -> anyhow::Result<()> {
         words.push(word)?;
     }
     match words.as_slice() {
-        [_, what] if what.as_str() == "tables" => measure(rt),
-        [_, what] if what.as_str() == "runs" => measure_runs(rt),
-        _ => {
-            rt.println("usage: bench tables, or bench runs")?;
+        [] | [_] => {
+            rt.println("usage: bench tables")?;
             Ok(())
         }
+        [_, what] if what.as_str() == "runs" => measure_runs(rt),
+        _ => measure(rt),
     }
 }
 

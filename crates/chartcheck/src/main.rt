@@ -109,6 +109,6 @@ fn run(rt: &HostRuntime) -> anyhow::Result<()> {
     }
 }
 
-fn main(rt: HostRuntime) {
-    let _ = run(&rt);
+fn main(rt: HostRuntime) -> anyhow::Result<()> {
+    run(&rt)
 }

@@ -11,9 +11,16 @@ use Rattle.orders.specs.Histories.{pos, Next}
 use Rattle.orders.specs.Passing.{passing, on_the_way, ahead}
 use Rattle.orders.specs.May.{May, alone, sends, takes, Waits, receiver, sender, itself}
 use Rattle.orders.specs.States.{State, finished, may, waits}
-use Rattle.orders.specs.Deciding.{sent_at, may_run, may_now, waits_for, waits_now}
+use Rattle.orders.specs.Deciding.{sent_at, may_now, may_run_at, may_now_at, waits_for, waits_for_at, waits_now}
 use Rattle.orders.proofs.Decided.{found, state}
 use Rattle.orders.proofs.Monotone.{may_stays}
+
+-- what is computed of a history is what is computed at its positions
+pub may_now_pos : (M : Carry) (L : List (List Event)) (h : List ℕ) (i : ℕ) → may_now M L h i ≡ may_now_at M L (pos h) i
+may_now_pos M L h i = refl
+
+pub waits_for_pos : (L : List (List Event)) (h : List ℕ) (i : ℕ) (e : Event) → waits_for L h i e ≡ waits_for_at L (pos h) i e
+waits_for_pos L h i e = refl
 
 -- histories with the same positions have the same next events, what may run after them is the same, and so are the waits
 module _ (M : Carry) (L : List (List Event)) (h g : List ℕ) (same : (j : ℕ) → pos h j ≡ pos g j) (i : ℕ) where
@@ -33,35 +40,35 @@ module _ (M : Carry) (L : List (List Event)) (h g : List ℕ) (same : (j : ℕ) 
 
 module _ (M : Carry) (L : List (List Event)) (sound : Sound L) where
   -- the answer is that of the next event
-  next_answer : (h : List ℕ) (i : ℕ) (e : Event) (b : Bool) → Next L h i e → may_run M L (pos h) i e ≡ b → may_now M L (pos h) i ≡ b
+  next_answer : (h : List ℕ) (i : ℕ) (e : Event) (b : Bool) → Next L h i e → may_run_at M L (pos h) i e ≡ b → may_now_at M L (pos h) i ≡ b
   next_answer h i e b n y =
-      ap₂ (λ (x z : Bool). x && z) (lt-ltb (pos h i) (count_of L i) n.within) (ap (may_run M L (pos h) i) n.is ∙ y)
+      ap₂ (λ (x z : Bool). x && z) (lt-ltb (pos h i) (count_of L i) n.within) (ap (may_run_at M L (pos h) i) n.is ∙ y)
 
-  next_wait : (h : List ℕ) (i j : ℕ) (e : Event) → Next L h i e → waits_for L (pos h) i e ≡ j → j ≡ waits_now L (pos h) i
-  next_wait h i j e n y = sym (ap (waits_for L (pos h) i) n.is ∙ y)
+  next_wait : (h : List ℕ) (i j : ℕ) (e : Event) → Next L h i e → waits_for_at L (pos h) i e ≡ j → j ≡ waits_now L (pos h) i
+  next_wait h i j e n y = sym (ap (waits_for_at L (pos h) i) n.is ∙ y)
 
   -- an instance is not the environment
   not_environment : (j : ℕ) → j < length L → eqb j environment ≡ false
   not_environment j l = ne_eqb j environment (λ e. let few = sound.few_instances in omega arith)
 
-  output_answer : (h : List ℕ) (i j m : ℕ) → j < length L → may_run M L (pos h) i (event output j m) ≡ M.send i j (on_the_way L h i j)
+  output_answer : (h : List ℕ) (i j m : ℕ) → j < length L → may_run_at M L (pos h) i (event output j m) ≡ M.send i j (on_the_way L h i j)
   output_answer h i j m l = cond-false (eqb j environment) true (M.send i j (on_the_way L h i j)) (not_environment j l)
 
   input_answer : (h : List ℕ) (i s m k : ℕ) → s < length L → At L s k (event output i m) →
-      may_run M L (pos h) i (event input s m) ≡ (ltb k (pos h s) && M.take s i (ahead L h s i k))
+      may_run_at M L (pos h) i (event input s m) ≡ (ltb k (pos h s) && M.take s i (ahead L h s i k))
   input_answer h i s m k l sent =
       cond-false (eqb s environment) true (answer (sent_at L i (event input s m))) (not_environment s l) ∙ ap answer (found L sound s i m k sent)
     where
       answer : ℕ → Bool
       answer x = ltb x (pos h s) && M.take s i (ahead L h s i x)
 
-  alone_answer : (h : List ℕ) (i : ℕ) (e : Event) → (e.kind ≡ action) ⊎ (e.peer ≡ environment) → may_run M L (pos h) i e ≡ true
+  alone_answer : (h : List ℕ) (i : ℕ) (e : Event) → (e.kind ≡ action) ⊎ (e.peer ≡ environment) → may_run_at M L (pos h) i e ≡ true
   alone_answer h i e a =
       cond-true (eqb e.kind action || eqb e.peer environment) true _ (⊎_elim
       (λ k. or_left (eqb e.kind action) (eqb e.peer environment) (eq-eqb e.kind action k))
       (λ p. or_right (eqb e.kind action) (eqb e.peer environment) (eq-eqb e.peer environment p)) a)
 
-  pub true_may : (h : List ℕ) (i : ℕ) → May M L h i → may_now M L (pos h) i ≡ true
+  pub true_may : (h : List ℕ) (i : ℕ) → May M L h i → may_now_at M L (pos h) i ≡ true
   true_may h i (alone e n a) = next_answer h i e true n (alone_answer h i e a)
   true_may h i (sends j m n l y) = next_answer h i (event output j m) true n (output_answer h i j m l ∙ y)
   true_may h i (takes s m k n l sent ran y) =
@@ -69,7 +76,7 @@ module _ (M : Carry) (L : List (List Event)) (sound : Sound L) where
       (input_answer h i s m k l sent ∙ and_from (ltb k (pos h s)) (M.take s i (ahead L h s i k)) (lt-ltb k (pos h s) ran) y)
 
   -- what waits may not run, and waits for the one that is computed
-  pub waits_now_lem : (h : List ℕ) (i j : ℕ) → Waits M L h i j → (may_now M L (pos h) i ≡ false) × (j ≡ waits_now L (pos h) i)
+  pub waits_now_lem : (h : List ℕ) (i j : ℕ) → Waits M L h i j → (may_now_at M L (pos h) i ≡ false) × (j ≡ waits_now L (pos h) i)
   waits_now_lem h i x (receiver j m n l f) =
       (next_answer h i (event output j m) false n (output_answer h i j m l ∙ f), next_wait h i j (event output j m) n refl)
   waits_now_lem h i x (sender s m k n l sent late) =
@@ -84,21 +91,21 @@ module _ (M : Carry) (L : List (List Event)) (sound : Sound L) where
         next_wait h i i e n (ap (λ (z : ℕ). cond (ltb z (pos h s)) i s) (found L sound s i m k sent) ∙ cond-true (ltb k (pos h s)) i s (lt-ltb k (pos h s) ran)),
       )
 
-  pub may_true : (h : List ℕ) (i : ℕ) → may_now M L (pos h) i ≡ true → May M L h i
+  pub may_true : (h : List ℕ) (i : ℕ) → may_now_at M L (pos h) i ≡ true → May M L h i
   may_true h i y = go (state L sound M h i)
     where
       go : State M L h i → May M L h i
       go (finished done) =
-          let left = ltb-true (pos h i) (count_of L i) (and_parts (ltb (pos h i) (count_of L i)) (may_run M L (pos h) i (event_of L i (pos h i))) y).0 in
+          let left = ltb-true (pos h i) (count_of L i) (and_parts (ltb (pos h i) (count_of L i)) (may_run_at M L (pos h) i (event_of L i (pos h i))) y).0 in
           absurd (omega arith)
       go (may m) = m
-      go (waits j w) = absurd (both_ways (may_now M L (pos h) i) (waits_now_lem h i j w).0 y)
+      go (waits j w) = absurd (both_ways (may_now_at M L (pos h) i) (waits_now_lem h i j w).0 y)
 
   -- an instance with an event left that may not run waits for the one that is computed
-  pub now_waits : (h : List ℕ) (i : ℕ) → pos h i < count_of L i → may_now M L (pos h) i ≡ false → Waits M L h i (waits_now L (pos h) i)
+  pub now_waits : (h : List ℕ) (i : ℕ) → pos h i < count_of L i → may_now_at M L (pos h) i ≡ false → Waits M L h i (waits_now L (pos h) i)
   now_waits h i left f = go (state L sound M h i)
     where
       go : State M L h i → Waits M L h i (waits_now L (pos h) i)
       go (finished done) = absurd (omega arith)
-      go (may m) = absurd (both_ways (may_now M L (pos h) i) f (true_may h i m))
+      go (may m) = absurd (both_ways (may_now_at M L (pos h) i) f (true_may h i m))
       go (waits j w) = subst (Waits M L h i) (waits_now_lem h i j w).1 w

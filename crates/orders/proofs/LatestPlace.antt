@@ -11,7 +11,7 @@ use Rattle.orders.specs.May.{May}
 use Rattle.orders.specs.Orders.{Order, Full}
 use Rattle.orders.specs.Drives.{Least}
 use Rattle.orders.specs.Latest.{Other, Latest}
-use Rattle.orders.specs.Deciding.{may_now}
+use Rattle.orders.specs.Deciding.{may_now_at}
 use Rattle.orders.specs.Driving.{driven, other_now, latest_place}
 use Rattle.orders.specs.Theorems.{Blocked, BlockedDriveFindsLatest}
 use Rattle.orders.proofs.Positions.{pos_append, pos_step, pos_stay, by_steps}
@@ -54,9 +54,9 @@ module _ (M : Carry) (L : List (List Event)) (sound : Sound L) where
   other_tested i k =
       let t = may_tested M L sound in
       record {
-        passes = λ h j o. and_from (may_now M L (pos h) j) (not (eqb j i && eqb (pos h i) k)) (t.passes h j o.can) (open_to h j o.other);
+        passes = λ h j o. and_from (may_now_at M L (pos h) j) (not (eqb j i && eqb (pos h i) k)) (t.passes h j o.can) (open_to h j o.other);
         passed = λ h j y.
-            let p = and_parts (may_now M L (pos h) j) (not (eqb j i && eqb (pos h i) k)) y in
+            let p = and_parts (may_now_at M L (pos h) j) (not (eqb j i && eqb (pos h i) k)) y in
             record {
               can = t.passed h j p.0;
               other = λ is at.

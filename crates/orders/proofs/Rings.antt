@@ -12,7 +12,7 @@ use Rattle.orders.specs.Histories.{pos}
 use Rattle.orders.specs.May.{Waits, receiver, sender, itself}
 use Rattle.orders.specs.Orders.{Order, Ended, Full}
 use Rattle.orders.specs.Rings.{head_or, LowestUnfinished, Ring}
-use Rattle.orders.specs.Deciding.{sent_at, unfinished, may_now, waits_for, waits_now}
+use Rattle.orders.specs.Deciding.{sent_at, unfinished, may_now_at, waits_for_at, waits_now}
 use Rattle.orders.specs.Driving.{lowest}
 use Rattle.orders.specs.Walking.{walked, ring_at}
 use Rattle.orders.specs.Theorems.{OneRing, StuckHasRing}
@@ -105,7 +105,7 @@ module _ (M : Carry) (L : List (List Event)) (sound : Sound L) (e : List ℕ) (e
   -- where none may run, an instance with an event left waits for the one that is computed
   pub waits_at_end : (i : ℕ) → pos e i < count_of L i → Waits M L e i (waits_now L (pos e) i)
   waits_at_end i left =
-      elim (cases_Bool (may_now M L (pos e) i)) [ inl y ↦ absurd (ended i (may_true M L sound e i y)) | inr f ↦ now_waits M L sound e i left f ]
+      elim (cases_Bool (may_now_at M L (pos e) i)) [ inl y ↦ absurd (ended i (may_true M L sound e i y)) | inr f ↦ now_waits M L sound e i left f ]
 
   -- and what is computed is always an instance
   pub waits_below : (i : ℕ) → i < length L → waits_now L (pos e) i < length L
@@ -113,7 +113,7 @@ module _ (M : Carry) (L : List (List Event)) (sound : Sound L) (e : List ℕ) (e
       elim (cases_lt (pos e i) (count_of L i)) [
         | inl left ↦ waited_width M L sound e i (waits_now L (pos e) i) (waits_at_end i left)
         | inr done ↦
-            subst (λ (x : Event). waits_for L (pos e) i x < length L) (sym (past_count L i (pos e i) done))
+            subst (λ (x : Event). waits_for_at L (pos e) i x < length L) (sym (past_count L i (pos e i) done))
             (cond_both (ltb (sent_at L i no_event) (pos e 0)) i 0 (λ x. x < length L) (λ _. l) (λ _. omega arith))
       ]
 

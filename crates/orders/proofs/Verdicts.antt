@@ -10,7 +10,7 @@ use Rattle.orders.specs.Histories.{pos}
 use Rattle.orders.specs.May.{May}
 use Rattle.orders.specs.Orders.{Order, Ended, Full}
 use Rattle.orders.specs.Drives.{Least, Drives}
-use Rattle.orders.specs.Deciding.{may_now, unfinished}
+use Rattle.orders.specs.Deciding.{may_now_at, unfinished}
 use Rattle.orders.specs.Driving.{lowest, driven}
 use Rattle.orders.specs.Theorems.{EndIsGreatest, DriveDecides, StateIsOne}
 use Rattle.orders.proofs.Growing.{greatest_end}
@@ -50,7 +50,7 @@ state_is_one M L sound h o i =
     }
 
 module _ (M : Carry) (L : List (List Event)) (sound : Sound L) where
-  pub may_tested : Tested (May M L) (may_now M L) (length L)
+  pub may_tested : Tested (May M L) (may_now_at M L) (length L)
   may_tested =
       record {
         passes = true_may M L sound;
@@ -59,13 +59,13 @@ module _ (M : Carry) (L : List (List Event)) (sound : Sound L) where
       }
 
   -- what a drive makes after any history is computed
-  pub drives : (h : List ℕ) (n : ℕ) → Drives M L h n (driven (may_now M L) (length L) n (pos h))
+  pub drives : (h : List ℕ) (n : ℕ) → Drives M L h n (driven (may_now_at M L) (length L) n (pos h))
   drives h n =
-      let d = driven_drive (May M L) (may_now M L) (length L) may_tested n h in record { lowest = d.lowest; most = d.most; stops = d.stops }
+      let d = driven_drive (May M L) (may_now_at M L) (length L) may_tested n h in record { lowest = d.lowest; most = d.most; stops = d.stops }
 
-  pub drives_only : (h : List ℕ) (n : ℕ) (w : List ℕ) → Drives M L h n w → w ≡ driven (may_now M L) (length L) n (pos h)
+  pub drives_only : (h : List ℕ) (n : ℕ) (w : List ℕ) → Drives M L h n w → w ≡ driven (may_now_at M L) (length L) n (pos h)
   drives_only h n w d =
-      drive_driven (May M L) (may_now M L) (length L) may_tested n h w (record { lowest = d.lowest; most = d.most; stops = d.stops })
+      drive_driven (May M L) (may_now_at M L) (length L) may_tested n h w (record { lowest = d.lowest; most = d.most; stops = d.stops })
 
   -- an order stays within the lists
   pub order_within : (h : List ℕ) → Order M L h → (i : ℕ) → pos h i ≤ count_of L i
@@ -99,32 +99,32 @@ module _ (M : Carry) (L : List (List Event)) (sound : Sound L) where
       order_full h o (λ i _. let a = greatest_end (May M L) (may_stays M L) h e f full.order i in let b = full.done i in omega arith)
 
   -- an order with the steps of a drive is an order
-  pub driven_order : (h : List ℕ) → Order M L h → (n : ℕ) → Order M L (h ++ driven (may_now M L) (length L) n (pos h))
+  pub driven_order : (h : List ℕ) → Order M L h → (n : ℕ) → Order M L (h ++ driven (may_now_at M L) (length L) n (pos h))
   driven_order h o n =
-      let w = driven (may_now M L) (length L) n (pos h) in
+      let w = driven (may_now_at M L) (length L) n (pos h) in
       onwards_steps (May M L) h w o (onwards_weaker (Least (May M L)) (May M L) (λ u j a. a.can) h w (drives h n).lowest)
 
   -- and with enough of them it has ended
-  pub driven_ended : (h : List ℕ) → Order M L h → (n : ℕ) → size L ≤ length h + n → Ended M L (h ++ driven (may_now M L) (length L) n (pos h))
-  driven_ended h o = drive_ends (May M L) (may_now M L) (length L) may_tested L (may_unfinished L sound M) h (order_within h o)
+  pub driven_ended : (h : List ℕ) → Order M L h → (n : ℕ) → size L ≤ length h + n → Ended M L (h ++ driven (may_now_at M L) (length L) n (pos h))
+  driven_ended h o = drive_ends (May M L) (may_now_at M L) (length L) may_tested L (may_unfinished L sound M) h (order_within h o)
 
   -- a drive of as many steps as there are events ends after any history
-  pub driven_ended_anywhere : (h : List ℕ) (n : ℕ) → size L ≤ n → Ended M L (h ++ driven (may_now M L) (length L) n (pos h))
-  driven_ended_anywhere = drive_ends_anywhere (May M L) (may_now M L) (length L) may_tested L (may_unfinished L sound M)
+  pub driven_ended_anywhere : (h : List ℕ) (n : ℕ) → size L ≤ n → Ended M L (h ++ driven (may_now_at M L) (length L) n (pos h))
+  driven_ended_anywhere = drive_ends_anywhere (May M L) (may_now_at M L) (length L) may_tested L (may_unfinished L sound M)
 
   -- where a full order exists the drive reaches one
   pub driven_full : (h : List ℕ) → Order M L h → (n : ℕ) → size L ≤ length h + n → (f : List ℕ) → Full M L f →
-      Full M L (h ++ driven (may_now M L) (length L) n (pos h))
-  driven_full h o n enough f full = ended_full (h ++ driven (may_now M L) (length L) n (pos h)) (driven_order h o n) (driven_ended h o n enough) f full
+      Full M L (h ++ driven (may_now_at M L) (length L) n (pos h))
+  driven_full h o n enough f full = ended_full (h ++ driven (may_now_at M L) (length L) n (pos h)) (driven_order h o n) (driven_ended h o n enough) f full
 
   -- and where it leaves an event, none exists
   pub driven_stuck : (h : List ℕ) → Order M L h → (n : ℕ) → size L ≤ length h + n →
-      (i : ℕ) → pos (h ++ driven (may_now M L) (length L) n (pos h)) i < count_of L i → (f : List ℕ) → Full M L f → ⊥
+      (i : ℕ) → pos (h ++ driven (may_now_at M L) (length L) n (pos h)) i < count_of L i → (f : List ℕ) → Full M L f → ⊥
   driven_stuck h o n enough i left f full = let d = (driven_full h o n enough f full).done i in omega arith
 
 pub drive_decides : DriveDecides
 drive_decides M L sound h o =
-    let w = driven (may_now M L) (length L) (size L) (pos h) in
+    let w = driven (may_now_at M L) (length L) (size L) (pos h) in
     let ended = driven_ended M L sound h o (size L) (omega arith) in
     let first = (drives M L sound h (size L)).lowest in (
       w,

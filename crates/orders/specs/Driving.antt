@@ -4,7 +4,7 @@ use Rattle.charts.specs.declared.parts.Event.{Event}
 use Rattle.charts.specs.Lists.{size}
 use Rattle.media.specs.Carry.{Carry}
 use Rattle.orders.specs.Histories.{pos}
-use Rattle.orders.specs.Deciding.{may_now}
+use Rattle.orders.specs.Deciding.{may_now_at}
 
 -- the first of n numbers from k on that passes the test, the one after them where none does
 abbrev pub first_from : (ℕ → Bool) → ℕ → ℕ → ℕ
@@ -32,7 +32,7 @@ driven test width (suc n) p =
 
 -- a step that may run and is not event k of instance i
 abbrev pub other_now : Carry → List (List Event) → ℕ → ℕ → (ℕ → ℕ) → ℕ → Bool
-other_now M L i k p j = may_now M L p j && not (j == i && p i == k)
+other_now M L i k p j = may_now_at M L p j && not (j == i && p i == k)
 
 -- the place where event k of instance i comes after h and everything else that can come before it
 abbrev pub latest_place : Carry → List (List Event) → List ℕ → ℕ → ℕ → ℕ

@@ -7,7 +7,7 @@ use Rattle.charts.specs.Events.{event, output, input, action, environment, is_me
 use Rattle.charts.specs.Lists.{At, column, count_of, event_of}
 use Rattle.charts.specs.Sound.{Sound}
 use Rattle.media.specs.Carry.{Carry}
-use Rattle.orders.specs.Deciding.{output_place, input_place, sent_at, may_run, waits_for}
+use Rattle.orders.specs.Deciding.{output_place, input_place, sent_at, may_run_at, waits_for_at}
 use Rattle.copies.specs.declared.parts.Slot.{Slot}
 use Rattle.copies.specs.Slots.{between, mate_of, ahead_of, slot_of, slot_at}
 use Rattle.rules.specs.declared.row.Row.{Row}
@@ -29,7 +29,7 @@ module _ (M : Carry) (L : List (List Event)) (sound : Sound L) (rows : List Row)
 
   -- what the rule says of it, and what it is to say
   abbrev Agrees : Event → Type 0
-  Agrees e = slot_may M (length L) (place_of rows) (sent_of rows) i (slot_for e) ≡ may_run M L (place_of rows) i e
+  Agrees e = slot_may M (length L) (place_of rows) (sent_of rows) i (slot_for e) ≡ may_run_at M L (place_of rows) i e
 
   at_action : (j m : ℕ) → Agrees (event action j m)
   at_action j m = refl
@@ -55,7 +55,7 @@ module _ (M : Carry) (L : List (List Event)) (sound : Sound L) (rows : List Row)
   of_kind e k p t = record { kind = p t; peer = e.peer; number = e.number }
 
   pub slot_may_lem : place_of rows i < count_of L i →
-      slot_may M (length L) (place_of rows) (sent_of rows) i (slot_of L i (place_of rows i)) ≡ may_run M L (place_of rows) i (event_of L i (place_of rows i))
+      slot_may M (length L) (place_of rows) (sent_of rows) i (slot_of L i (place_of rows i)) ≡ may_run_at M L (place_of rows) i (event_of L i (place_of rows i))
   slot_may_lem left =
       let e = event_of L i (place_of rows i) in
       let a : At L i (place_of rows i) e = record { within = left; is = refl } in
@@ -96,7 +96,7 @@ slot_none L i k e =
     ]
 
 -- what is waited for, read off a slot
-pub slot_waits_lem : (L : List (List Event)) → Sound L → (p : ℕ → ℕ) (i k : ℕ) → k < count_of L i → slot_waits p i (slot_of L i k) ≡ waits_for L p i (event_of L i k)
+pub slot_waits_lem : (L : List (List Event)) → Sound L → (p : ℕ → ℕ) (i k : ℕ) → k < count_of L i → slot_waits p i (slot_of L i k) ≡ waits_for_at L p i (event_of L i k)
 slot_waits_lem L sound p i k left =
     elim (cases_eq e.kind output) [
       | inl o ↦

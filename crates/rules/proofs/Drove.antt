@@ -7,7 +7,7 @@ use Rattle.charts.specs.declared.parts.Event.{Event}
 use Rattle.charts.specs.Lists.{event_of}
 use Rattle.charts.specs.Sound.{Sound}
 use Rattle.media.specs.Carry.{Carry}
-use Rattle.orders.specs.Deciding.{unfinished, may_run, may_now}
+use Rattle.orders.specs.Deciding.{unfinished, may_run_at, may_now_at}
 use Rattle.orders.specs.Driving.{lowest, moved, moved_by, driven}
 use Rattle.orders.proofs.Lowest.{lowest_passes}
 use Rattle.orders.proofs.Driving.{moved_by_push, driven_more, driven_stops}
@@ -91,9 +91,9 @@ module _ (test : (ℕ → ℕ) → ℕ → Bool) (width : ℕ) where
 
 -- an instance that may run has not finished
 pub held_unfinished : (M : Carry) (L : List (List Event)) (held : Option Held) (p : ℕ → ℕ) (i : ℕ) → held_now M L held p i ≡ true → unfinished L p i ≡ true
-held_unfinished M L None p i t = (and_parts (unfinished L p i) (may_run M L p i (event_of L i (p i))) t).0
+held_unfinished M L None p i t = (and_parts (unfinished L p i) (may_run_at M L p i (event_of L i (p i))) t).0
 held_unfinished M L (Some x) p i t =
-    (and_parts (unfinished L p i) (may_run M L p i (event_of L i (p i))) (and_parts (may_now M L p i) (not (eqb i x.instance && eqb (p x.instance) x.event)) t).0).0
+    (and_parts (unfinished L p i) (may_run_at M L p i (event_of L i (p i))) (and_parts (may_now_at M L p i) (not (eqb i x.instance && eqb (p x.instance) x.event)) t).0).0
 
 module _ (M : Carry) (L : List (List Event)) (held : Option Held) where
   -- what the search for the lowest answers in a chart with the lists K, at the rows

@@ -2,13 +2,13 @@
 use Rattle.std.specs.Prelude.{ℕ, Bool, cond, List, Some, None, Option, nat_lt}
 use Rattle.charts.specs.declared.parts.Event.{Event}
 use Rattle.media.specs.Carry.{Carry}
-use Rattle.orders.specs.Deciding.{may_now}
+use Rattle.orders.specs.Deciding.{may_now_at}
 use Rattle.orders.specs.Driving.{other_now}
 use Rattle.rules.specs.declared.held.Held.{Held}
 
 -- instance j may run at the positions p, and not by the event that is held
 abbrev pub held_now : Carry → List (List Event) → Option Held → (ℕ → ℕ) → ℕ → Bool
-held_now M L None p j = may_now M L p j
+held_now M L None p j = may_now_at M L p j
 held_now M L (Some x) p j = other_now M L x.instance x.event p j
 
 -- a number below the width, none where it is the width

@@ -1,6 +1,6 @@
 ghost use Rattle.std.specs.Prelude.{◌≡◌, length, if◌then◌else◌};
 ghost use Rattle.copies.specs.Kept.{kept};
-ghost use Rattle.orders.specs.Deciding.{unfinished, may_now, waits_now};
+ghost use Rattle.orders.specs.Deciding.{unfinished, may_now_at, waits_now};
 ghost use Rattle.rules.specs.Places.{place_of, sent_of};
 ghost use Rattle.rules.specs.Rules.{mate_ran, slot_may, slot_waits};
 
@@ -36,7 +36,7 @@ impl Board {
 
     // Whether instance i has an event left, and its next may run.
     pub fn may<M: Medium>(&self, medium: &M, i: usize) -> bool
-        ensures { result ≡ may_now (M.carries medium.now) (kept self.now.copy) (place_of self.now.rows.table) i }
+        ensures { result ≡ may_now_at (M.carries medium.now) (kept self.now.copy) (place_of self.now.rows.table) i }
     {
         match self.next(i) {
             None => false,

@@ -8,7 +8,7 @@ use Rattle.charts.specs.Lists.{count_of}
 use Rattle.charts.specs.Sound.{Sound}
 use Rattle.media.specs.Carry.{Carry}
 use Rattle.orders.specs.Histories.{pos}
-use Rattle.orders.specs.Deciding.{unfinished, may_now}
+use Rattle.orders.specs.Deciding.{unfinished, may_now_at}
 use Rattle.orders.specs.Driving.{lowest, moved_by, driven}
 use Rattle.orders.specs.Drives.{Drives}
 use Rattle.orders.proofs.Lowest.{lowest_passes, lowest_least}
@@ -68,7 +68,7 @@ ends_by L g w n most =
 module _ (M : Carry) (L : List (List Event)) (rows after : List Row) (n : ℕ) (buffer part : List ℕ) (room : n ≤ length buffer)
     (wrote : Wrote (driven (held_now M L None) (length L) (length (take (n - 0) (drop 0 buffer))) (place_of rows)) rows after (take (n - 0) (drop 0 buffer)) part) where
   abbrev w : List ℕ
-  w = driven (may_now M L) (length L) n (place_of rows)
+  w = driven (may_now_at M L) (length L) n (place_of rows)
 
   part_long : length (take (n - 0) (drop 0 buffer)) ≡ n
   part_long = let a = length-take (n - 0) (drop 0 buffer) in omega arith
@@ -77,7 +77,7 @@ module _ (M : Carry) (L : List (List Event)) (rows after : List Row) (n : ℕ) (
   steps_are = ap (λ (k : ℕ). driven (held_now M L None) (length L) k (place_of rows)) part_long
 
   short : length w ≤ n
-  short = driven_most (may_now M L) (length L) n (place_of rows)
+  short = driven_most (may_now_at M L) (length L) n (place_of rows)
 
   whole : n - 0 ≡ n
   whole = omega arith
@@ -93,8 +93,8 @@ module _ (M : Carry) (L : List (List Event)) (rows after : List Row) (n : ℕ) (
       wrote.places j ∙ ap (λ (v : List ℕ). moved_by (place_of rows) v j) (steps_are ∙ sym (ap (take (length w)) drive_writes ∙ take_at w (drop (length w) buffer) (length w) refl))
 
   module _ (sound : Sound L) (h : List ℕ) (stands : Stands rows h) where
-    from_there : w ≡ driven (may_now M L) (length L) n (pos h)
-    from_there = ap (driven (may_now M L) (length L) n) (standing rows h stands)
+    from_there : w ≡ driven (may_now_at M L) (length L) n (pos h)
+    from_there = ap (driven (may_now_at M L) (length L) n) (standing rows h stands)
 
     led_to : place_of after ≡ pos (h ++ w)
     led_to =

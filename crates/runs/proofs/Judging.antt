@@ -9,7 +9,7 @@ use Rattle.media.specs.Carry.{Carry}
 use Rattle.orders.specs.Histories.{pos}
 use Rattle.orders.specs.Orders.{Order, Ended, Full}
 use Rattle.orders.specs.Drives.{Lowest}
-use Rattle.orders.specs.Deciding.{unfinished, may_now}
+use Rattle.orders.specs.Deciding.{unfinished, may_now_at}
 use Rattle.orders.specs.Driving.{lowest, moved_by, driven}
 use Rattle.orders.proofs.Lowest.{lowest_passes}
 use Rattle.orders.proofs.Verdicts.{drives, none_unfinished, driven_order, driven_ended, driven_stuck}
@@ -71,13 +71,13 @@ module _ (L : List (List Event)) (rows : List Row) (within : Within L rows) (h :
 
 -- a drive to its end after h
 module _ (M : Carry) (L : List (List Event)) (sound : Sound L) (rows end : List Row) (within : Within L rows) (n : ℕ) (enough : size L ≤ n)
-    (moves : (j : ℕ) → place_of end j ≡ moved_by (place_of rows) (driven (may_now M L) (length L) n (place_of rows)) j)
+    (moves : (j : ℕ) → place_of end j ≡ moved_by (place_of rows) (driven (may_now_at M L) (length L) n (place_of rows)) j)
     (out out' : List ℕ) (room : room_for L (place_of rows) (length out) ≡ true) (h : List ℕ) (stands : Stands rows h) where
   abbrev w : List ℕ
-  w = driven (may_now M L) (length L) n (place_of rows)
+  w = driven (may_now_at M L) (length L) n (place_of rows)
 
-  w_is : w ≡ driven (may_now M L) (length L) n (pos h)
-  w_is = ap (driven (may_now M L) (length L) n) (standing rows h stands)
+  w_is : w ≡ driven (may_now_at M L) (length L) n (pos h)
+  w_is = ap (driven (may_now_at M L) (length L) n) (standing rows h stands)
 
   end_stands : Stands end (h ++ w)
   end_stands = stands_on rows end h w stands moves
@@ -134,7 +134,7 @@ module _ (M : Carry) (L : List (List Event)) (sound : Sound L) (rows end : List 
     where
       never : Order M L h → (f : List ℕ) → Full M L f → ⊥
       never order =
-          let v = driven (may_now M L) (length L) n (pos h) in
+          let v = driven (may_now_at M L) (length L) n (pos h) in
           let p = pos (h ++ v) in
           let x = lowest (unfinished L p) (length L) in
           let same : place_of end ≡ p = standing end (h ++ w) end_stands ∙ ap (λ (u : List ℕ). pos (h ++ u)) w_is in

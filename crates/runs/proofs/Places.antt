@@ -9,7 +9,7 @@ use Rattle.orders.specs.Histories.{pos}
 use Rattle.orders.specs.May.{May}
 use Rattle.orders.specs.Orders.{Order}
 use Rattle.orders.specs.Latest.{Other, Latest}
-use Rattle.orders.specs.Deciding.{unfinished, may_now}
+use Rattle.orders.specs.Deciding.{unfinished, may_now_at}
 use Rattle.orders.specs.Driving.{lowest, moved_by, driven, other_now}
 use Rattle.orders.proofs.Lowest.{lowest_passes}
 use Rattle.orders.proofs.Driving.{moved_by_pos}
@@ -35,13 +35,13 @@ stands_on rows after h w s moves j =
 
 module _ (M : Carry) (L : List (List Event)) (sound : Sound L) (rows mid end : List Row) (i k n m : ℕ) (enough : size L ≤ n) (enough' : size L ≤ m)
     (held : (j : ℕ) → place_of mid j ≡ moved_by (place_of rows) (driven (other_now M L i k) (length L) n (place_of rows)) j)
-    (ends : (j : ℕ) → place_of end j ≡ moved_by (place_of mid) (driven (may_now M L) (length L) m (place_of mid)) j)
+    (ends : (j : ℕ) → place_of end j ≡ moved_by (place_of mid) (driven (may_now_at M L) (length L) m (place_of mid)) j)
     (h : List ℕ) (stands : Stands rows h) (high : k < count_of L i) (low : place_of rows i ≤ k) where
   abbrev u : List ℕ
   u = driven (other_now M L i k) (length L) n (place_of rows)
 
   abbrev v : List ℕ
-  v = driven (may_now M L) (length L) m (place_of mid)
+  v = driven (may_now_at M L) (length L) m (place_of mid)
 
   u_is : u ≡ driven (other_now M L i k) (length L) n (pos h)
   u_is = ap (driven (other_now M L i k) (length L) n) (standing rows h stands)
@@ -49,10 +49,10 @@ module _ (M : Carry) (L : List (List Event)) (sound : Sound L) (rows mid end : L
   mid_stands : Stands mid (h ++ u)
   mid_stands = stands_on rows mid h u stands held
 
-  v_is : v ≡ driven (may_now M L) (length L) m (pos (h ++ u))
-  v_is = ap (driven (may_now M L) (length L) m) (standing mid (h ++ u) mid_stands)
+  v_is : v ≡ driven (may_now_at M L) (length L) m (pos (h ++ u))
+  v_is = ap (driven (may_now_at M L) (length L) m) (standing mid (h ++ u) mid_stands)
 
-  end_is : place_of end ≡ pos ((h ++ u) ++ driven (may_now M L) (length L) m (pos (h ++ u)))
+  end_is : place_of end ≡ pos ((h ++ u) ++ driven (may_now_at M L) (length L) m (pos (h ++ u)))
   end_is = standing end ((h ++ u) ++ v) (stands_on mid end (h ++ u) v mid_stands ends) ∙ ap (λ (w : List ℕ). pos ((h ++ u) ++ w)) v_is
 
   here : pos h i ≤ k
@@ -71,7 +71,7 @@ module _ (M : Carry) (L : List (List Event)) (sound : Sound L) (rows mid end : L
     high,
     here,
     λ order.
-        let v' = driven (may_now M L) (length L) m (pos (h ++ u)) in
+        let v' = driven (may_now_at M L) (length L) m (pos (h ++ u)) in
         let full = none_unfinished M L sound ((h ++ u) ++ v') (driven_order M L sound (h ++ u) (mid_order order) m)
         (subst (λ (p : ℕ → ℕ). length L ≤ lowest (unfinished L p) (length L)) end_is done) in
         subst (Latest M L h i k) (sym (is ∙ ap (λ (w : List ℕ). suc (length h + length w)) u_is))
@@ -81,7 +81,7 @@ module _ (M : Carry) (L : List (List Event)) (sound : Sound L) (rows mid end : L
   pub latest_is_none : lowest (unfinished L (place_of end)) (length L) < length L → LatestAnswers M L h i k (Err NoFullOrder)
   latest_is_none some =
       let left = subst (λ (p : ℕ → ℕ). lowest (unfinished L p) (length L) < length L) end_is some in
-      let p = pos ((h ++ u) ++ driven (may_now M L) (length L) m (pos (h ++ u))) in
+      let p = pos ((h ++ u) ++ driven (may_now_at M L) (length L) m (pos (h ++ u))) in
       let x = lowest (unfinished L p) (length L) in
       no_full_order refl high here
       (λ order. driven_stuck M L sound (h ++ u) (mid_order order) m (omega arith) x (ltb-true (p x) (count_of L x) (lowest_passes (unfinished L p) (length L) left)))
@@ -105,7 +105,7 @@ one_more a b x y p q = omega arith
 -- what a second drive makes, in terms of the same copy
 pub ends_level : (M : Carry) (x y : Indexed) → x ≡ y → (mid end : List Row) (m : ℕ) →
     ((j : ℕ) → place_of end j ≡ moved_by (place_of mid) (driven (held_now M (kept x) None) (length (kept x)) m (place_of mid)) j) →
-    (j : ℕ) → place_of end j ≡ moved_by (place_of mid) (driven (may_now M (kept y)) (length (kept y)) m (place_of mid)) j
+    (j : ℕ) → place_of end j ≡ moved_by (place_of mid) (driven (may_now_at M (kept y)) (length (kept y)) m (place_of mid)) j
 ends_level M x y same mid end m moves j =
     moves j ∙ ap (λ (z : Indexed). moved_by (place_of mid) (driven (held_now M (kept z) None) (length (kept z)) m (place_of mid)) j) same
 

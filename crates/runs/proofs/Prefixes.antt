@@ -9,7 +9,7 @@ use Rattle.media.specs.Carry.{Carry}
 use Rattle.orders.specs.May.{May}
 use Rattle.orders.specs.Orders.{Order}
 use Rattle.orders.specs.Drives.{Least}
-use Rattle.orders.specs.Deciding.{may_now}
+use Rattle.orders.specs.Deciding.{may_now_at}
 use Rattle.orders.specs.Driving.{driven}
 use Rattle.orders.specs.Histories.{pos}
 use Rattle.orders.proofs.Growing.{steps_none, steps_push}
@@ -60,7 +60,7 @@ module _ (M : Carry) (L : List (List Event)) (sound : Sound L) where
       let room = length (vec_items x.buffer) in
       record {
         order = order;
-        goes_on = λ f full. (driven (may_now M L) (length L) (size L) (pos h), driven_full M L sound h order (size L) (omega arith) f full);
+        goes_on = λ f full. (driven (may_now_at M L) (length L) (size L) (pos h), driven_full M L sound h order (size L) (omega arith) f full);
         call = m.call;
         answered = subst (λ (a : Option Answer). Answers t M L h x.call (vec_items x.buffer) a (vec_items y.buffer)) (sym m.noted) m.made.answered;
         history = m.made.history;

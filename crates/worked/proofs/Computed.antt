@@ -13,7 +13,7 @@ use Rattle.orders.specs.May.{May}
 use Rattle.orders.specs.Orders.{Order, Ended, Full}
 use Rattle.orders.specs.Rings.{Ring}
 use Rattle.orders.specs.Latest.{Latest}
-use Rattle.orders.specs.Deciding.{may_now}
+use Rattle.orders.specs.Deciding.{may_now_at}
 use Rattle.orders.specs.Driving.{driven, latest_place}
 use Rattle.orders.specs.Walking.{ring_at}
 use Rattle.orders.proofs.Growing.{steps_none}
@@ -27,7 +27,7 @@ use Rattle.worked.specs.SmallCharts.{Stuck}
 pub lists_sound : (L : List (List Event)) → checked (map length L) (flat_map (λ es. es) L) ≡ None → cut (map length L) (flat_map (λ es. es) L) ≡ L → Sound L
 lists_sound L none same = subst Sound same (checked_sound (map length L) (flat_map (λ es. es) L) none).sound
 
-module _ (M : Carry) (L : List (List Event)) (sound : Sound L) (e : List ℕ) (drive : driven (may_now M L) (length L) (size L) (pos []) ≡ e) where
+module _ (M : Carry) (L : List (List Event)) (sound : Sound L) (e : List ℕ) (drive : driven (may_now_at M L) (length L) (size L) (pos []) ≡ e) where
   drive_order : Order M L e
   drive_order = subst (Order M L) drive (driven_order M L sound [] (steps_none (May M L)) (size L))
 
