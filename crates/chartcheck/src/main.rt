@@ -103,12 +103,15 @@ fn run(rt: &HostRuntime) -> anyhow::Result<()> {
         Wanted::Input => show_input(rt),
         Wanted::Poll(keypads, rounds) => show(rt, &Poll::new(keypads, rounds)),
         Wanted::Help => {
-            rt.eprintln("usage: chartcheck < TABLE, chartcheck < PILE, or chartcheck poll N R")?;
+            rt.eprintln("usage: chartcheck < TABLE, or chartcheck poll N R")?;
             Ok(())
         }
     }
 }
 
-fn main(rt: HostRuntime) -> anyhow::Result<()> {
-    run(&rt)
+// An error is told on standard error; the status is 0 all the same.
+fn main(rt: HostRuntime) {
+    if let Err(e) = run(&rt) {
+        let _ = eprintln!(rt; "Error: {e}");
+    }
 }

@@ -7,13 +7,13 @@ use Rattle.process.specs.Equations.{reflexive, symmetric, transitive, in_alterna
 use Rattle.process.specs.Rules.{left_ends, right_ends, both_end, merge_ends, test_ends, filter_ends}
 use Rattle.process.specs.Rules.{left_steps, right_steps, first_steps, second_steps, merge_left_steps, merge_right_steps, left_merge_steps}
 use Rattle.process.specs.Rules.{filter_passes, filter_sends, filter_takes}
-use Rattle.process.proofs.Following.{EndsToo, StepsToo, Follows, Alike, no_step-√, no_end-⌊}
+use Rattle.process.proofs.Following.{EndsToo, StepsToo, Follows, Alike, no_step_√, no_end_⌊}
 use Rattle.process.proofs.TableB7.{alike_A1, alike_A2, alike_A3, alike_A4, alike_A5, alike_A6, alike_A7, alike_A8, alike_A9, alike_TM1, alike_TM2}
 use Rattle.process.proofs.TableB7.{alike_TM3, alike_TM4, alike_TM5, alike_TE1, alike_TE2, alike_TE3, alike_TE4}
 use Rattle.process.proofs.TableB10.{alike_LM1, alike_LM2, alike_LM3, alike_LM4, alike_LM5, alike_LM6, alike_LM7, alike_LM8, alike_LM9}
 
-ends-√ : (x y : Process) → EndsToo x y → EndsToo (√ x) (√ y)
-ends-√ x y f (test_ends e) = test_ends (f e)
+ends_√ : (x y : Process) → EndsToo x y → EndsToo (√ x) (√ y)
+ends_√ x y f (test_ends e) = test_ends (f e)
 
 ends_filter : (M : Messages) (x y : Process) → EndsToo x y → EndsToo (filter M x) (filter M y)
 ends_filter M x y f (filter_ends n e) = filter_ends n (f e)
@@ -56,10 +56,10 @@ module _ (x y : Process) (e : x ≈ y) (f : Follows x y) where
     steps_left_merge a w (left_merge_steps {z = z} s) = let r = f.steps a z s in (r.0 ‖ v, left_merge_steps r.1, in_merge r.2 g)
 
     follows_left_merge : Follows (x ⌊ u) (y ⌊ v)
-    follows_left_merge = record { ends = λ d. absurd (no_end-⌊ x u d); steps = steps_left_merge }
+    follows_left_merge = record { ends = λ d. absurd (no_end_⌊ x u d); steps = steps_left_merge }
 
   follows_termination : Follows (√ x) (√ y)
-  follows_termination = record { ends = ends-√ x y f.ends; steps = λ a z s. absurd (no_step-√ x a z s) }
+  follows_termination = record { ends = ends_√ x y f.ends; steps = λ a z s. absurd (no_step_√ x a z s) }
 
   steps_filter : (M : Messages) → StepsToo (filter M x) (filter M y)
   steps_filter M a w (filter_passes {z = z} p s) = let r = f.steps a z s in (filter M r.0, filter_passes p r.1, in_filter M r.2)

@@ -30,8 +30,8 @@ no_step_ε a z s = elim s [ ]
 pub no_step_δ : (a : Action) (z : Process) → Step δ a z → ⊥
 no_step_δ a z s = elim s [ ]
 
-pub no_step-√ : (x : Process) (a : Action) (z : Process) → Step (√ x) a z → ⊥
-no_step-√ x a z s = elim s [ ]
+pub no_step_√ : (x : Process) (a : Action) (z : Process) → Step (√ x) a z → ⊥
+no_step_√ x a z s = elim s [ ]
 
 pub no_end_δ : Ends δ → ⊥
 no_end_δ e = elim e [ ]
@@ -39,8 +39,8 @@ no_end_δ e = elim e [ ]
 pub no_end_act : (a : Action) → Ends (act a) → ⊥
 no_end_act a e = elim e [ ]
 
-pub no_end-⌊ : (x y : Process) → Ends (x ⌊ y) → ⊥
-no_end-⌊ x y e = elim e [ ]
+pub no_end_⌊ : (x y : Process) → Ends (x ⌊ y) → ⊥
+no_end_⌊ x y e = elim e [ ]
 
 -- an action before a process does not end, and its one step is the action
 pub no_end_prefix : (a : Action) (x : Process) → Ends (act a · x) → ⊥

@@ -5,8 +5,8 @@ use Rattle.process.specs.Equations.{A5, A8, A9}
 use Rattle.process.specs.Equations.{reflexive, symmetric, transitive, in_merge}
 use Rattle.process.specs.Rules.{empty, left_ends, right_ends, both_end, merge_ends, test_ends}
 use Rattle.process.specs.Rules.{atom, left_steps, right_steps, first_steps, second_steps, merge_left_steps, merge_right_steps, left_merge_steps}
-use Rattle.process.proofs.Following.{EndsToo, StepsToo, Alike, quiet, endless, nothing, no_step_ε, no_step_δ, no_step-√, no_end_δ, no_end_act}
-use Rattle.process.proofs.Following.{no_end-⌊, no_end_prefix}
+use Rattle.process.proofs.Following.{EndsToo, StepsToo, Alike, quiet, endless, nothing, no_step_ε, no_step_δ, no_step_√, no_end_δ, no_end_act}
+use Rattle.process.proofs.Following.{no_end_⌊, no_end_prefix}
 
 -- an alternative is commutative, associative and idempotent, and deadlock is none
 ends_A1 : (x y : Process) → EndsToo (x ⊕ y) (y ⊕ x)
@@ -116,8 +116,8 @@ ends_TM1 : (x y : Process) → EndsToo (x ‖ y) (x ⌊ y ⊕ y ⌊ x ⊕ √ x 
 ends_TM1 x y (merge_ends e f) = right_ends (both_end (test_ends e) (test_ends f))
 
 ends_TM1_back : (x y : Process) → EndsToo (x ⌊ y ⊕ y ⌊ x ⊕ √ x · √ y) (x ‖ y)
-ends_TM1_back x y (left_ends (left_ends e)) = absurd (no_end-⌊ x y e)
-ends_TM1_back x y (left_ends (right_ends e)) = absurd (no_end-⌊ y x e)
+ends_TM1_back x y (left_ends (left_ends e)) = absurd (no_end_⌊ x y e)
+ends_TM1_back x y (left_ends (right_ends e)) = absurd (no_end_⌊ y x e)
 ends_TM1_back x y (right_ends (both_end (test_ends e) (test_ends f))) = merge_ends e f
 
 steps_TM1 : (x y : Process) → StepsToo (x ‖ y) (x ⌊ y ⊕ y ⌊ x ⊕ √ x · √ y)
@@ -127,8 +127,8 @@ steps_TM1 x y a w (merge_right_steps s) = (w, left_steps (right_steps (left_merg
 steps_TM1_back : (x y : Process) → StepsToo (x ⌊ y ⊕ y ⌊ x ⊕ √ x · √ y) (x ‖ y)
 steps_TM1_back x y a w (left_steps (left_steps (left_merge_steps s))) = (w, merge_left_steps s, reflexive w)
 steps_TM1_back x y a w (left_steps (right_steps (left_merge_steps s))) = (w, merge_right_steps s, reflexive w)
-steps_TM1_back x y a w (right_steps (first_steps {z = u} s)) = absurd (no_step-√ x a u s)
-steps_TM1_back x y a w (right_steps (second_steps e s)) = absurd (no_step-√ y a w s)
+steps_TM1_back x y a w (right_steps (first_steps {z = u} s)) = absurd (no_step_√ x a u s)
+steps_TM1_back x y a w (right_steps (second_steps e s)) = absurd (no_step_√ y a w s)
 
 steps_TM2 : (x : Process) → StepsToo (ε ⌊ x) δ
 steps_TM2 x a w (left_merge_steps {z = u} s) = absurd (no_step_ε a u s)
@@ -155,8 +155,8 @@ steps_TM5_back x y z a w (left_steps (left_merge_steps s)) = (w, left_merge_step
 steps_TM5_back x y z a w (right_steps (left_merge_steps s)) = (w, left_merge_steps (right_steps s), reflexive w)
 
 ends_TM5_back : (x y z : Process) → EndsToo (x ⌊ z ⊕ y ⌊ z) ((x ⊕ y) ⌊ z)
-ends_TM5_back x y z (left_ends e) = absurd (no_end-⌊ x z e)
-ends_TM5_back x y z (right_ends e) = absurd (no_end-⌊ y z e)
+ends_TM5_back x y z (left_ends e) = absurd (no_end_⌊ x z e)
+ends_TM5_back x y z (right_ends e) = absurd (no_end_⌊ y z e)
 
 -- the termination operator
 ends_TE1 : EndsToo (√ ε) ε
@@ -177,8 +177,8 @@ ends_TE4_back x y (left_ends (test_ends e)) = test_ends (left_ends e)
 ends_TE4_back x y (right_ends (test_ends e)) = test_ends (right_ends e)
 
 steps_TE4_back : (x y : Process) → StepsToo (√ x ⊕ √ y) (√ (x ⊕ y))
-steps_TE4_back x y a w (left_steps s) = absurd (no_step-√ x a w s)
-steps_TE4_back x y a w (right_steps s) = absurd (no_step-√ y a w s)
+steps_TE4_back x y a w (left_steps s) = absurd (no_step_√ x a w s)
+steps_TE4_back x y a w (right_steps s) = absurd (no_step_√ y a w s)
 
 -- each equation of Table B.7
 pub alike_A1 : (x y : Process) → Alike (x ⊕ y) (y ⊕ x)
@@ -221,30 +221,30 @@ alike_TM1 x y =
     (record { ends = ends_TM1 x y; steps = steps_TM1 x y }, record { ends = ends_TM1_back x y; steps = steps_TM1_back x y })
 
 pub alike_TM2 : (x : Process) → Alike (ε ⌊ x) δ
-alike_TM2 x = (endless (ε ⌊ x) δ (no_end-⌊ ε x) (steps_TM2 x), nothing (ε ⌊ x))
+alike_TM2 x = (endless (ε ⌊ x) δ (no_end_⌊ ε x) (steps_TM2 x), nothing (ε ⌊ x))
 
 pub alike_TM3 : (x : Process) → Alike (δ ⌊ x) δ
-alike_TM3 x = (endless (δ ⌊ x) δ (no_end-⌊ δ x) (steps_TM3 x), nothing (δ ⌊ x))
+alike_TM3 x = (endless (δ ⌊ x) δ (no_end_⌊ δ x) (steps_TM3 x), nothing (δ ⌊ x))
 
 pub alike_TM4 : (a : Action) (x y : Process) → Alike (act a · x ⌊ y) (act a · (x ‖ y))
 alike_TM4 a x y = (
-  endless (act a · x ⌊ y) (act a · (x ‖ y)) (no_end-⌊ (act a · x) y) (steps_TM4 a x y),
+  endless (act a · x ⌊ y) (act a · (x ‖ y)) (no_end_⌊ (act a · x) y) (steps_TM4 a x y),
   endless (act a · (x ‖ y)) (act a · x ⌊ y) (no_end_prefix a (x ‖ y)) (steps_TM4_back a x y),
 )
 
 pub alike_TM5 : (x y z : Process) → Alike ((x ⊕ y) ⌊ z) (x ⌊ z ⊕ y ⌊ z)
 alike_TM5 x y z =
-    (endless ((x ⊕ y) ⌊ z) (x ⌊ z ⊕ y ⌊ z) (no_end-⌊ (x ⊕ y) z) (steps_TM5 x y z), record { ends = ends_TM5_back x y z; steps = steps_TM5_back x y z })
+    (endless ((x ⊕ y) ⌊ z) (x ⌊ z ⊕ y ⌊ z) (no_end_⌊ (x ⊕ y) z) (steps_TM5 x y z), record { ends = ends_TM5_back x y z; steps = steps_TM5_back x y z })
 
 pub alike_TE1 : Alike (√ ε) ε
-alike_TE1 = (quiet (√ ε) ε ends_TE1 (no_step-√ ε), quiet ε (√ ε) (λ e. test_ends e) no_step_ε)
+alike_TE1 = (quiet (√ ε) ε ends_TE1 (no_step_√ ε), quiet ε (√ ε) (λ e. test_ends e) no_step_ε)
 
 pub alike_TE2 : Alike (√ δ) δ
-alike_TE2 = (quiet (√ δ) δ ends_TE2 (no_step-√ δ), nothing (√ δ))
+alike_TE2 = (quiet (√ δ) δ ends_TE2 (no_step_√ δ), nothing (√ δ))
 
 pub alike_TE3 : (a : Action) (x : Process) → Alike (√ (act a · x)) δ
-alike_TE3 a x = (quiet (√ (act a · x)) δ (ends_TE3 a x) (no_step-√ (act a · x)), nothing (√ (act a · x)))
+alike_TE3 a x = (quiet (√ (act a · x)) δ (ends_TE3 a x) (no_step_√ (act a · x)), nothing (√ (act a · x)))
 
 pub alike_TE4 : (x y : Process) → Alike (√ (x ⊕ y)) (√ x ⊕ √ y)
 alike_TE4 x y =
-    (quiet (√ (x ⊕ y)) (√ x ⊕ √ y) (ends_TE4 x y) (no_step-√ (x ⊕ y)), record { ends = ends_TE4_back x y; steps = steps_TE4_back x y })
+    (quiet (√ (x ⊕ y)) (√ x ⊕ √ y) (ends_TE4 x y) (no_step_√ (x ⊕ y)), record { ends = ends_TE4_back x y; steps = steps_TE4_back x y })
