@@ -1,7 +1,7 @@
 -- What every chart owes, and what its summary answers.
 use Rattle.std.specs.Prelude.{◌≡◌, List, [], length, Some, None, Ok, Err, Option, Result}
 use Rattle.charts.specs.declared.parts.Event.{Event}
-use Rattle.charts.specs.declared.parts.Fault.{Fault}
+use Rattle.charts.specs.declared.faults.Fault.{Fault}
 use Rattle.charts.specs.declared.parts.Summary.{Summary}
 use Rattle.charts.specs.Lists.{size}
 use Rattle.charts.specs.Span.{span}

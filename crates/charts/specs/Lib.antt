@@ -1,4 +1,9 @@
 pub mod Events
+pub mod Kinds
+pub mod Peers
+pub mod Texts
+pub mod Faults
+pub mod Sizes
 pub mod Lists
 pub mod Span
 pub mod Sound

@@ -1,11 +1,12 @@
 ghost use Rattle.std.specs.Prelude.{◌≡◌, List, length, Option};
 ghost use Rattle.charts.specs.declared.parts.Event.{Event};
-ghost use Rattle.charts.specs.declared.parts.Fault.{Fault};
+ghost use Rattle.charts.specs.declared.faults.Fault.{Fault};
 ghost use Rattle.charts.specs.Lists.{count_of, event_of};
 ghost use Rattle.charts.specs.Span.{span};
 ghost use Rattle.charts.specs.Judged.{Judged, summed};
 
-use crate::parts::{Event, Fault, Summary};
+use crate::faults::Fault;
+use crate::parts::{Event, Summary};
 
 // A chart. Its meaning is a list of events for each instance, and its trouble: a fault, or none.
 pub trait Chart {
@@ -32,29 +33,20 @@ pub trait Chart {
     fn width(&self) -> usize
         ensures { result ≡ length (lists self.now) }
     {
-        match self.summary() {
-            Ok(s) => s.width,
-            Err(_) => 0,
-        }
+        self.summary().map_or(0, |size| size.width)
     }
 
     // One more than the greatest message number, 0 without messages.
     fn span(&self) -> usize
         ensures { result ≡ span (lists self.now) }
     {
-        match self.summary() {
-            Ok(s) => s.span,
-            Err(_) => 0,
-        }
+        self.summary().map_or(0, |size| size.span)
     }
 
     // The fault of a spoiled chart.
     fn fault(&self) -> Option<Fault>
         ensures { result ≡ trouble self.now }
     {
-        match self.summary() {
-            Ok(_) => None,
-            Err(f) => Some(f),
-        }
+        self.summary().err()
     }
 }

@@ -1,13 +1,77 @@
-ghost use Rattle.std.specs.Prelude.{◌≡◌};
+ghost use Rattle.std.specs.Prelude.{◌≡◌, Some, codes};
 ghost use Rattle.charts.specs.Events.{is_message};
+ghost use Rattle.charts.specs.Kinds.{code_of, name_of, Decodes};
 
-use crate::parts::{Event, INPUT, OUTPUT};
+use crate::parts::Event;
+use std::error::Error;
+use std::fmt;
+
+// What an event does.
+#[derive(Clone, Copy, PartialEq, Eq, Hash, Debug)]
+pub enum Kind {
+    Output,
+    Input,
+    Action,
+}
+
+// A byte that stands for no kind.
+#[derive(Clone, Copy, PartialEq, Eq, Debug)]
+pub struct UnknownKind(pub u8);
+
+impl From<Kind> for u8 {
+    ghost from_gives = { λ kind code. code ≡ code_of kind };
+
+    fn from(kind: Kind) -> u8 {
+        match kind {
+            Kind::Output => 1,
+            Kind::Input => 2,
+            Kind::Action => 3,
+        }
+    }
+}
+
+impl TryFrom<u8> for Kind {
+    type Error = UnknownKind;
+
+    ghost try_from_gives = { Decodes };
+
+    fn try_from(code: u8) -> Result<Kind, UnknownKind> {
+        match code {
+            1 => Ok(Kind::Output),
+            2 => Ok(Kind::Input),
+            3 => Ok(Kind::Action),
+            _ => Err(UnknownKind(code)),
+        }
+    }
+}
+
+impl fmt::Display for Kind {
+    ghost output = { λ kind. Some (name_of kind) };
+
+    fn fmt<W: fmt::Write>(&self, f: &mut fmt::Formatter<W>) -> fmt::Result {
+        f.write_str(match self {
+            Kind::Output => "out",
+            Kind::Input => "in",
+            Kind::Action => "action",
+        })
+    }
+}
+
+impl fmt::Display for UnknownKind {
+    ghost output = { λ _. Some (codes "none") };
+
+    fn fmt<W: fmt::Write>(&self, f: &mut fmt::Formatter<W>) -> fmt::Result {
+        f.write_str("none")
+    }
+}
+
+impl Error for UnknownKind {}
 
 impl Event {
     // Whether the event sends or receives a message.
     pub fn is_message(&self) -> bool
         ensures { result ≡ is_message self.now }
     {
-        matches!(self.kind, OUTPUT | INPUT)
+        matches!(Kind::try_from(self.kind), Ok(Kind::Output | Kind::Input))
     }
 }

@@ -2,11 +2,16 @@
 #![tactic(auto)]
 
 mod chart;
+mod faults;
 mod kinds;
 mod parts;
+mod peers;
 
 pub use chart::Chart;
+pub use faults::{Fault, Layer, Rule};
+pub use kinds::{Kind, UnknownKind};
 pub use parts::{
-    ACTION, ENVIRONMENT, Event, Fault, INPUT, MOST_EVENTS, MOST_INSTANCES, MOST_NUMBER, NO_EVENT,
-    OUTPUT, Summary,
+    ACTION, ENVIRONMENT, Event, INPUT, MOST_EVENTS, MOST_INSTANCES, MOST_NUMBER, NO_EVENT, OUTPUT,
+    Summary,
 };
+pub use peers::Peer;

@@ -1,11 +1,20 @@
-// The kinds of an event.
+ghost use Rattle.std.specs.Prelude.{◌≡◌, Some};
+ghost use Rattle.charts.specs.Events.{event};
+ghost use Rattle.charts.specs.Kinds.{code_of};
+ghost use Rattle.charts.specs.Peers.{byte_of};
+ghost use Rattle.charts.specs.Sizes.{size_text};
+
+use crate::kinds::Kind;
+use crate::peers::Peer;
+use std::fmt;
+
+// Numbers of kinds and of the environment, for crates that do not yet use `Kind` and `Peer`.
 pub const OUTPUT: u8 = 1;
 
 pub const INPUT: u8 = 2;
 
 pub const ACTION: u8 = 3;
 
-// The peer that stands for the environment.
 pub const ENVIRONMENT: u8 = 255;
 
 // The limits of a sound chart: its instances, its events, and the number of a message or an action.
@@ -16,6 +25,7 @@ pub const MOST_EVENTS: usize = 4096;
 pub const MOST_NUMBER: u16 = 4095;
 
 // One event of an instance: an output to the peer, an input from it, or an action.
+// The row of a table, which may have any bytes for its kind and peer; `Kind` and `Peer` say what they stand for.
 #[derive(Clone, Copy, PartialEq, Eq, Debug)]
 pub struct Event {
     pub kind: u8,
@@ -31,13 +41,16 @@ pub const NO_EVENT: Event = Event {
     number: 0,
 };
 
-// Why a chart is spoiled: the number of the broken rule, the event's place, and the layer that found it.
-#[derive(Clone, Copy, PartialEq, Eq, Debug)]
-pub struct Fault {
-    pub number: u8,
-    pub instance: u8,
-    pub event: u16,
-    pub layer: u8,
+impl Event {
+    pub fn new(kind: Kind, peer: Peer, number: u16) -> Event
+        ensures { result ≡ event (code_of kind) (byte_of peer) number }
+    {
+        Event {
+            kind: u8::from(kind),
+            peer: u8::from(peer),
+            number,
+        }
+    }
 }
 
 // A chart's size: its instances, its events and its span.
@@ -46,4 +59,12 @@ pub struct Summary {
     pub width: usize,
     pub events: usize,
     pub span: usize,
+}
+
+impl fmt::Display for Summary {
+    ghost output = { λ size. Some (size_text size) };
+
+    fn fmt<W: fmt::Write>(&self, f: &mut fmt::Formatter<W>) -> fmt::Result {
+        write!(f, "chart {} {} {}", self.width, self.events, self.span)
+    }
 }

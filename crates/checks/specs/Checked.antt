@@ -1,7 +1,7 @@
 -- What is wrong with a table, if anything: its checks, in their order.
 use Rattle.std.specs.Prelude.{ℕ, suc, List, [], ◌∷◌, length, Some, None, sum, Option, ◌==◌, nat_le}
 use Rattle.charts.specs.declared.parts.Event.{Event}
-use Rattle.charts.specs.declared.parts.Fault.{Fault}
+use Rattle.charts.specs.declared.faults.Fault.{Fault}
 use Rattle.checks.specs.Choice.{unless, or_else, earliest}
 use Rattle.checks.specs.Cut.{instance_of, index_of}
 use Rattle.checks.specs.Rules.{well_formed, not_repeated, matched}

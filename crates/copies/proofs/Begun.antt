@@ -4,7 +4,7 @@ use Rattle.std.proofs.lemmas.List.{get_or-set_same, get_or-set_other, flat_map_m
 use Rattle.std.proofs.lemmas.List.Sums.{sum-map, sum_by_push, sum_by_more, sum_by-take-le}
 use Rattle.std.proofs.lemmas.Bool.{cases_lt}
 use Rattle.charts.specs.declared.parts.Event.{Event}
-use Rattle.charts.specs.declared.parts.Fault.{Fault}
+use Rattle.charts.specs.declared.faults.Fault.{Fault}
 use Rattle.charts.specs.Events.{no_event}
 use Rattle.charts.specs.Judged.{Judged}
 use Rattle.charts.specs.Lists.{column, count_of}

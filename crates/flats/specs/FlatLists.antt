@@ -1,7 +1,7 @@
 -- The chart that owns its events: a verdict, the length of each instance's column, and the events, instance after instance.
 use Rattle.std.specs.Prelude.{◌≡◌, ℕ, ◌<◌, List, map, length, take, Some, Ok, Err, sum, Option, Result, slice_index_or, refl}
 use Rattle.charts.specs.declared.parts.Event.{Event}
-use Rattle.charts.specs.declared.parts.Fault.{Fault}
+use Rattle.charts.specs.declared.faults.Fault.{Fault}
 use Rattle.charts.specs.declared.parts.Summary.{Summary}
 use Rattle.charts.specs.Judged.{Judged, unspoiled}
 use Rattle.checks.specs.Cut.{cut}

@@ -16,7 +16,7 @@ use Rattle.joining.proofs.Sizes.{raised_span, moved_size, span_of_append}
 use Rattle.joining.proofs.Union.{Part, From, union_sound}
 use Rattle.joining.proofs.Judging.{joined_judged}
 use Rattle.joining.specs.Joined.{join_trouble, join_lists}
-use Rattle.charts.specs.declared.parts.Fault.{Fault}
+use Rattle.charts.specs.declared.faults.Fault.{Fault}
 use Rattle.charts.specs.Judged.{Judged}
 
 pub append_column : (L K : List (List Event)) (i : ℕ) → column (append L K) i ≡ column L i ++ column K i

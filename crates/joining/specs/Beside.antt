@@ -2,7 +2,7 @@
 use Rattle.std.specs.Prelude.{◌≡◌, ◌+◌, List, [], ◌++◌, map, length, None, Option}
 use Rattle.charts.specs.declared.parts.Event.{Event}
 use Rattle.charts.specs.Span.{span}
-use Rattle.charts.specs.declared.parts.Fault.{Fault}
+use Rattle.charts.specs.declared.faults.Fault.{Fault}
 use Rattle.joining.specs.Joined.{join_trouble, join_lists, Same, Kept}
 use Rattle.joining.specs.Moves.{moved}
 

@@ -1,7 +1,7 @@
 -- The fault and the lists of a chart that is joined from others.
 use Rattle.std.specs.Prelude.{◌≡◌, ℕ, Bool, cond, ◌&&◌, List, length, Some, None, Option, nat_le}
 use Rattle.charts.specs.declared.parts.Event.{Event}
-use Rattle.charts.specs.declared.parts.Fault.{Fault}
+use Rattle.charts.specs.declared.faults.Fault.{Fault}
 use Rattle.charts.specs.Judged.{unspoiled}
 use Rattle.charts.specs.Lists.{size}
 use Rattle.charts.specs.Span.{span}

@@ -1,7 +1,7 @@
 -- One chart after another, from what its parts answer.
 use Rattle.std.proofs.Common.{◌≡◌, ℕ, ◌+◌, ◌-◌, ◌<◌, ◌≤◌, max, List, length, None, Option, sym, ap, ◌∙◌, arith}
 use Rattle.charts.specs.declared.parts.Event.{Event}
-use Rattle.charts.specs.declared.parts.Fault.{Fault}
+use Rattle.charts.specs.declared.faults.Fault.{Fault}
 use Rattle.charts.specs.declared.parts.Summary.{Summary}
 use Rattle.charts.specs.Lists.{size, count_of, event_of}
 use Rattle.charts.specs.Span.{span}

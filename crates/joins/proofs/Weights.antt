@@ -1,7 +1,7 @@
 -- What the sizes of two charts tell of their join.
 use Rattle.std.proofs.Common.{◌≡◌, ℕ, ◌<◌, Bool, true, false, cond, List, Some, None, Ok, Err, Option, refl, ap, ◌∙◌, arith}
 use Rattle.charts.specs.declared.parts.Event.{Event}
-use Rattle.charts.specs.declared.parts.Fault.{Fault}
+use Rattle.charts.specs.declared.faults.Fault.{Fault}
 use Rattle.charts.specs.declared.parts.Summary.{Summary}
 use Rattle.charts.specs.Judged.{Judged, summed, unspoiled}
 use Rattle.charts.specs.Lists.{count_of}

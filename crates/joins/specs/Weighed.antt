@@ -1,7 +1,7 @@
 -- The sizes of two charts, or the first fault; and what fits the limits of a chart.
 use Rattle.std.specs.Prelude.{ℕ, ◌≤◌, cond, ◌&&◌, List, length, Some, None, Ok, Err, Option, Result, nat_le}
 use Rattle.charts.specs.declared.parts.Event.{Event}
-use Rattle.charts.specs.declared.parts.Fault.{Fault}
+use Rattle.charts.specs.declared.faults.Fault.{Fault}
 use Rattle.charts.specs.declared.parts.Summary.{Summary}
 use Rattle.charts.specs.Lists.{size}
 use Rattle.charts.specs.Span.{span}

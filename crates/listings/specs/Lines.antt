@@ -1,7 +1,7 @@
 -- The lines that tell of a chart: words with one space between each and the next.
 use Rattle.std.specs.Prelude.{ℕ, cond, List, [], ◌∷◌, ◌++◌, codes, decimal, ◌==◌}
 use Rattle.charts.specs.declared.parts.Event.{Event}
-use Rattle.charts.specs.declared.parts.Fault.{Fault}
+use Rattle.charts.specs.declared.faults.Fault.{Fault}
 use Rattle.charts.specs.Events.{output, input, action, environment}
 
 -- the words with one space between each and the next

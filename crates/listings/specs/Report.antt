@@ -1,7 +1,7 @@
 -- The whole report on a chart: lines, each with a line feed behind it.
 use Rattle.std.specs.Prelude.{ℕ, suc, List, [], ◌∷◌, ◌++◌, length, Some, None, codes, Option}
 use Rattle.charts.specs.declared.parts.Event.{Event}
-use Rattle.charts.specs.declared.parts.Fault.{Fault}
+use Rattle.charts.specs.declared.faults.Fault.{Fault}
 use Rattle.charts.specs.Lists.{size}
 use Rattle.charts.specs.Span.{span}
 use Rattle.listings.specs.Lines.{chart_line, event_line, fault_line}

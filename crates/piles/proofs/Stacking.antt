@@ -4,7 +4,7 @@ use Rattle.std.proofs.lemmas.List.{map_push, nil_from_length, reverse-append, ta
 use Rattle.std.specs.Slice.{IsGetResult}
 use Rattle.std.specs.Option.{ok_or}
 use Rattle.charts.specs.declared.parts.Event.{Event}
-use Rattle.charts.specs.declared.parts.Fault.{Fault}
+use Rattle.charts.specs.declared.faults.Fault.{Fault}
 use Rattle.flats.specs.declared.flat.Flat.{Flat}
 use Rattle.tabletexts.specs.Outcome.{Answers}
 use Rattle.tabletexts.specs.declared.parts.Unread.{Unread}

@@ -1,7 +1,7 @@
 -- What a chart means: its fault, or none, and its lists; and what its making makes of that.
 use Rattle.std.specs.Prelude.{ℕ, List, vec_items, Option}
 use Rattle.charts.specs.declared.parts.Event.{Event}
-use Rattle.charts.specs.declared.parts.Fault.{Fault}
+use Rattle.charts.specs.declared.faults.Fault.{Fault}
 use Rattle.checks.specs.Checked.{checked}
 use Rattle.flats.specs.declared.flat.Flat.{Flat}
 use Rattle.flats.specs.FlatLists.{counts, flat_trouble, flat_lists}

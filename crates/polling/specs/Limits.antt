@@ -1,7 +1,7 @@
 -- How large a poll may be.
 use Rattle.std.specs.Prelude.{ℕ, Bool, cond, ◌&&◌, List, Some, None, Option, nat_le}
 use Rattle.charts.specs.declared.parts.Event.{Event}
-use Rattle.charts.specs.declared.parts.Fault.{Fault}
+use Rattle.charts.specs.declared.faults.Fault.{Fault}
 use Rattle.charts.specs.Judged.{unspoiled}
 use Rattle.polling.specs.Polling.{polling}
 

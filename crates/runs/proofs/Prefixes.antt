@@ -2,7 +2,7 @@
 use Rattle.std.proofs.Common.{◌≡◌, ℕ, ◌+◌, ◌<◌, ◌≤◌, List, [], ◌∷◌, ◌++◌, length, get_or, take, drop, set, Some, None, vec_items, Option, sym, refl, ap, ◌∙◌, subst, subst₂, inl, inr, add-zero, arith}
 use Rattle.std.proofs.lemmas.List.{get_or-drop, drop-drop, drop-set-lt, take_more, take_more_set, take_all}
 use Rattle.charts.specs.declared.parts.Event.{Event}
-use Rattle.charts.specs.declared.parts.Fault.{Fault}
+use Rattle.charts.specs.declared.faults.Fault.{Fault}
 use Rattle.charts.specs.Lists.{size}
 use Rattle.charts.specs.Sound.{Sound}
 use Rattle.media.specs.Carry.{Carry}

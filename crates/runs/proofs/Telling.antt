@@ -1,7 +1,7 @@
 -- Charts without a fault, and where a run stands.
 use Rattle.std.proofs.Common.{◌≡◌, ℕ, List, Some, None, Ok, Option, Result, arith}
 use mathlib.Core.Path.{fun_ext}
-use Rattle.charts.specs.declared.parts.Fault.{Fault}
+use Rattle.charts.specs.declared.faults.Fault.{Fault}
 use Rattle.orders.specs.Histories.{pos}
 use Rattle.rules.specs.declared.row.Row.{Row}
 use Rattle.rules.specs.Places.{place_of}

@@ -1,7 +1,7 @@
 -- What each call is to answer after a history.
 use Rattle.std.specs.Prelude.{◌≡◌, ℕ, List, Some, Ok, Err, Option, Result}
 use Rattle.charts.specs.declared.parts.Event.{Event}
-use Rattle.charts.specs.declared.parts.Fault.{Fault}
+use Rattle.charts.specs.declared.faults.Fault.{Fault}
 use Rattle.media.specs.Carry.{Carry}
 use Rattle.runs.specs.declared.parts.Refusal.{Refusal}
 use Rattle.runs.specs.declared.parts.Drove.{Drove}

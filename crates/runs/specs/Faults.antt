@@ -1,6 +1,6 @@
 -- The check that every call begins with.
 use Rattle.std.specs.Prelude.{Some, None, Ok, Err, Option, Result}
-use Rattle.charts.specs.declared.parts.Fault.{Fault}
+use Rattle.charts.specs.declared.faults.Fault.{Fault}
 use Rattle.runs.specs.declared.parts.Refusal.{Refusal}
 use Rattle.runs.specs.declared.parts.Refusal.TheVariants.{Spoiled}
 

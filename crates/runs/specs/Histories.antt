@@ -1,7 +1,7 @@
 -- A run's history, made from its chart, its medium and the calls' arguments alone.
 use Rattle.std.specs.Prelude.{◌≡◌, ℕ, ◌<◌, ◌≤◌, ◌⊎◌, List, [], ◌∷◌, ◌++◌, Some, None, Option}
 use Rattle.charts.specs.declared.parts.Event.{Event}
-use Rattle.charts.specs.declared.parts.Fault.{Fault}
+use Rattle.charts.specs.declared.faults.Fault.{Fault}
 use Rattle.media.specs.Carry.{Carry}
 use Rattle.orders.specs.May.{May}
 use Rattle.orders.specs.Drives.{Drives}

@@ -1,7 +1,7 @@
 -- What one turn makes of a run.
 use Rattle.std.specs.Prelude.{◌≡◌, ℕ, List, length, Some, vec_items, Option}
 use Rattle.charts.specs.declared.parts.Event.{Event}
-use Rattle.charts.specs.declared.parts.Fault.{Fault}
+use Rattle.charts.specs.declared.faults.Fault.{Fault}
 use Rattle.media.specs.Carry.{Carry}
 use Rattle.rules.specs.declared.row.Row.{Row}
 use Rattle.runs.specs.declared.calls.Call.{Call}

@@ -1,7 +1,7 @@
 -- The whole promise: what a list of calls on a new run answers and writes.
 use Rattle.std.specs.Prelude.{◌≡◌, ℕ, List, [], ◌∷◌, ◌++◌, length, vec_items, Option}
 use Rattle.charts.specs.declared.parts.Event.{Event}
-use Rattle.charts.specs.declared.parts.Fault.{Fault}
+use Rattle.charts.specs.declared.faults.Fault.{Fault}
 use Rattle.media.specs.Carry.{Carry}
 use Rattle.orders.specs.Orders.{Order, Full}
 use Rattle.runs.specs.declared.calls.Turn.{Turn}

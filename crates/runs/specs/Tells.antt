@@ -1,6 +1,6 @@
 -- What a call tells of a chart with a fault, or of one with none.
 use Rattle.std.specs.Prelude.{◌≡◌, Some, None, Ok, Err, Option, Result}
-use Rattle.charts.specs.declared.parts.Fault.{Fault}
+use Rattle.charts.specs.declared.faults.Fault.{Fault}
 use Rattle.runs.specs.declared.parts.Refusal.{Refusal}
 use Rattle.runs.specs.declared.parts.Refusal.TheVariants.{Spoiled}
 

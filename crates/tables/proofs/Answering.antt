@@ -4,7 +4,7 @@ use Rattle.std.proofs.lemmas.List.{get_or_past, at_drop_more, at_drop_all}
 use Rattle.std.proofs.lemmas.List.Sums.{sum_by-take-drop, sum_by-drop_more}
 use Rattle.std.proofs.lemmas.Bool.{cases_lt}
 use Rattle.charts.specs.declared.parts.Event.{Event}
-use Rattle.charts.specs.declared.parts.Fault.{Fault}
+use Rattle.charts.specs.declared.faults.Fault.{Fault}
 use Rattle.charts.specs.declared.parts.Summary.{Summary}
 use Rattle.charts.specs.Events.{no_event}
 use Rattle.charts.specs.Lists.{column, count_of, event_of}

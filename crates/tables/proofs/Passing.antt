@@ -1,7 +1,7 @@
 -- The steps of a pass over a table's events.
 use Rattle.std.proofs.Common.{◌≡◌, ℕ, ◌+◌, ◌<◌, ◌≤◌, List, length, get_or, drop, Some, None, Option, sym, ap, ◌∙◌}
 use Rattle.charts.specs.declared.parts.Event.{Event}
-use Rattle.charts.specs.declared.parts.Fault.{Fault}
+use Rattle.charts.specs.declared.faults.Fault.{Fault}
 use Rattle.charts.specs.Events.{no_event}
 use Rattle.checks.specs.Cut.{instance_of, index_of}
 use Rattle.checks.specs.Checked.{table_fault, scan}

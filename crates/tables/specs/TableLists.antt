@@ -1,7 +1,7 @@
 -- The chart over a table.
 use Rattle.std.specs.Prelude.{◌≡◌, ℕ, List, Some, None, Option, refl}
 use Rattle.charts.specs.declared.parts.Event.{Event}
-use Rattle.charts.specs.declared.parts.Fault.{Fault}
+use Rattle.charts.specs.declared.faults.Fault.{Fault}
 use Rattle.charts.specs.Judged.{Judged, unspoiled}
 use Rattle.checks.specs.Cut.{cut}
 use Rattle.checks.specs.Checked.{checked}

@@ -1,6 +1,6 @@
 use Rattle.std.proofs.Common.{List, [], get_or, Option, refl, ap, ◌∙◌, subst, subst₂, arith}
 use Rattle.charts.specs.declared.parts.Event.{Event}
-use Rattle.charts.specs.declared.parts.Fault.{Fault}
+use Rattle.charts.specs.declared.faults.Fault.{Fault}
 use Rattle.copies.specs.declared.indexed.Indexed.{Indexed}
 use Rattle.copies.specs.Kept.{kept}
 use Rattle.copies.proofs.Kept.{kept_sound}

@@ -2,7 +2,7 @@ use Rattle.std.proofs.Common.{ℕ, length, Ok, Result, sym, ap, ◌∙◌}
 use Rattle.checks.proofs.Exact.{checked_sound}
 use Rattle.tables.proofs.Answering.{sized, blamed_so, not_sound}
 use Rattle.charts.specs.declared.parts.Summary.{Summary}
-use Rattle.charts.specs.declared.parts.Fault.{Fault}
+use Rattle.charts.specs.declared.faults.Fault.{Fault}
 use Rattle.tables.proofs.verdicts.judge.Goals as goal
 
 pub returns-in-Some : goal.returns-in-Some
