@@ -1,6 +1,6 @@
 ghost use Rattle.std.specs.Prelude.{◌≡◌, ℕ, None};
 ghost use Rattle.messages.specs.declared.ends.End.{End as Side};
-ghost use Rattle.messages.specs.Places.{place_of, place_after};
+ghost use Rattle.messages.specs.Places.{nowhere, place_of, place_after};
 
 use crate::ends::End;
 
@@ -17,17 +17,24 @@ pub struct MessagePlaces {
     ends: [Ends; 4096],
 }
 
+impl Ends {
+    fn nowhere() -> Ends
+        ensures { result ≡ nowhere }
+    {
+        Ends {
+            output: None,
+            input: None,
+        }
+    }
+}
+
 impl MessagePlaces {
     // Nothing noted.
     pub fn new() -> MessagePlaces
         ensures { (end : Side) (number : ℕ) → place_of result end number ≡ None }
     {
-        let nowhere = Ends {
-            output: None,
-            input: None,
-        };
         MessagePlaces {
-            ends: [nowhere; 4096],
+            ends: [Ends::nowhere(); 4096],
         }
     }
 
