@@ -18,15 +18,24 @@ pub enum Kind {
 #[derive(Clone, Copy, PartialEq, Eq, Debug)]
 pub struct UnknownKind(pub u8);
 
-impl From<Kind> for u8 {
-    ghost from_gives = { λ kind code. code ≡ code_of kind };
-
-    fn from(kind: Kind) -> u8 {
-        match kind {
+impl Kind {
+    // The byte that stands for the kind.
+    pub const fn code(self) -> u8
+        ensures { result ≡ code_of self }
+    {
+        match self {
             Kind::Output => 1,
             Kind::Input => 2,
             Kind::Action => 3,
         }
+    }
+}
+
+impl From<Kind> for u8 {
+    ghost from_gives = { λ kind code. code ≡ code_of kind };
+
+    fn from(kind: Kind) -> u8 {
+        kind.code()
     }
 }
 

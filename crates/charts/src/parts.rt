@@ -42,12 +42,12 @@ pub const NO_EVENT: Event = Event {
 };
 
 impl Event {
-    pub fn new(kind: Kind, peer: Peer, number: u16) -> Event
+    pub const fn new(kind: Kind, peer: Peer, number: u16) -> Event
         ensures { result ≡ event (code_of kind) (byte_of peer) number }
     {
         Event {
-            kind: u8::from(kind),
-            peer: u8::from(peer),
+            kind: kind.code(),
+            peer: peer.byte(),
             number,
         }
     }

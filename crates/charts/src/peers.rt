@@ -13,14 +13,23 @@ pub enum Peer {
 // The byte of the environment.
 const ENVIRONMENT: u8 = 255;
 
+impl Peer {
+    // The byte that stands for the peer.
+    pub const fn byte(self) -> u8
+        ensures { result ≡ byte_of self }
+    {
+        match self {
+            Peer::Instance(i) => i,
+            Peer::Environment => ENVIRONMENT,
+        }
+    }
+}
+
 impl From<Peer> for u8 {
     ghost from_gives = { λ peer byte. byte ≡ byte_of peer };
 
     fn from(peer: Peer) -> u8 {
-        match peer {
-            Peer::Instance(i) => i,
-            Peer::Environment => ENVIRONMENT,
-        }
+        peer.byte()
     }
 }
 

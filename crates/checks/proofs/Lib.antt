@@ -4,3 +4,4 @@ pub mod Places
 pub mod Scans
 pub mod Passed
 pub mod Exact
+pub mod Joined

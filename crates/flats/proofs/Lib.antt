@@ -1,4 +1,1 @@
-pub mod Joins
-pub mod Turns
 pub mod Copied
-pub mod Held

@@ -1,27 +1,15 @@
 use crate::cases::{check_copy, check_same};
-use charts::{ACTION, Chart, ENVIRONMENT, Event, INPUT, NO_EVENT, OUTPUT};
+use charts::{Chart, Event, Kind, NO_EVENT, Peer};
 use flats::Flat;
 use polls::Poll;
 use std::test::Fail;
 use tables::Table;
 
-const SENT: Event = Event {
-    kind: OUTPUT,
-    peer: 2,
-    number: 7,
-};
+const SENT: Event = Event::new(Kind::Output, Peer::Instance(2), 7);
 
-const RECEIVED: Event = Event {
-    kind: INPUT,
-    peer: 0,
-    number: 7,
-};
+const RECEIVED: Event = Event::new(Kind::Input, Peer::Instance(0), 7);
 
-const DONE: Event = Event {
-    kind: ACTION,
-    peer: ENVIRONMENT,
-    number: 4095,
-};
+const DONE: Event = Event::new(Kind::Action, Peer::Environment, 4095);
 
 #[test]
 fn a_table(rt: HostRuntime) -> Result<(), Fail> {
