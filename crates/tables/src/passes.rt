@@ -1,7 +1,7 @@
 ghost use Rattle.std.specs.Prelude.{◌≡◌, ℕ, ◌+◌, ◌<◌, length, IfOk, None, slice_index_or};
 ghost use Rattle.charts.specs.Events.{no_event};
-ghost use Rattle.messages.specs.Ends.{kind_of};
-ghost use Rattle.checks.specs.Rules.{well_formed, not_repeated, joins, has_match, matched};
+ghost use Rattle.checks.specs.Cut.{instance_of};
+ghost use Rattle.checks.specs.Rules.{well_formed, not_repeated, joins, matched};
 ghost use Rattle.checks.specs.Checked.{checked};
 ghost use Rattle.tables.specs.Findings.{misformed, repeated, unmatched, Finds, Breaks};
 ghost use Rattle.tables.specs.Seen.{Seen};
@@ -72,38 +72,29 @@ impl Layout<'_, '_> {
         Ok(())
     }
 
-    // Whether the event at p is on instance i, and its peer is j.
-    fn is_joined(&self, p: usize, i: usize, j: usize) -> bool
+    // Whether the event at p is on instance i, and its peer is the instance of event k.
+    fn is_joined(&self, p: usize, i: usize, k: usize) -> bool
         requires { p < length self.now.events.now }
-        ensures { result ≡ joins self.now.lengths.now self.now.events.now p i j }
+        ensures { result ≡ joins self.now.lengths.now self.now.events.now p i (instance_of self.now.lengths.now k) }
     {
-        self.locate(p).instance == i && usize::from(self.events[p].peer) == j
+        self.locate(p).instance == i
+            && usize::from(self.events[p].peer) == self.locate(k).instance
     }
 
-    // Whether the other end of a message stands on the peer of event k, e; with the environment, whether there is none.
-    fn has_match(&self, k: usize, e: &Event, end: End, places: &MessagePlaces) -> bool
-        requires is { e.now.kind ≡ kind_of end }
-        requires seen { Seen self.now.events.now (length self.now.events.now) places.now }
-        ensures { result ≡ has_match self.now.lengths.now self.now.events.now k e.now }
-    {
-        match (Peer::from(e.peer), places.find(end.other(), e.number)) {
-            (Peer::Environment, partner) => partner.is_none(),
-            (Peer::Instance(_), None) => false,
-            (Peer::Instance(peer), Some(partner)) => {
-                let here = self.locate(k).instance;
-                self.is_joined(usize::from(partner), usize::from(peer), here)
-            }
-        }
-    }
-
-    // Whether event k, e, has its match, if it is of a message.
+    // Whether event k, e, has its match, if it is of a message: with the environment, none; else the other end on its peer.
     fn check_match(&self, k: usize, e: &Event, places: &MessagePlaces) -> Result<(), Rule>
         requires { Seen self.now.events.now (length self.now.events.now) places.now }
         ensures { Breaks (matched self.now.lengths.now self.now.events.now k e.now) result }
     {
-        match End::of(*e) {
-            Some(end) if !self.has_match(k, e, end, places) => Err(Rule::Unmatched),
-            _ => Ok(()),
+        let Some(end) = End::of(*e) else {
+            return Ok(());
+        };
+        match (Peer::from(e.peer), places.find(end.other(), e.number)) {
+            (Peer::Environment, None) => Ok(()),
+            (Peer::Instance(i), Some(p)) if self.is_joined(usize::from(p), usize::from(i), k) => {
+                Ok(())
+            }
+            _ => Err(Rule::Unmatched),
         }
     }
 
