@@ -1,14 +1,14 @@
 -- What the answers of a table read off its lists.
-use Rattle.std.proofs.Common.{◌≡◌, ℕ, ◌+◌, ◌<◌, ◌≤◌, max, List, length, get_or, take, drop, Some, None, Ok, Err, sum, Option, sym, refl, ap, ◌∙◌, inl, inr, arith}
-use Rattle.std.proofs.lemmas.List.{get_or_past, at_drop_more, at_drop_all}
+use Rattle.std.proofs.Common.{◌≡◌, ℕ, suc, ◌+◌, ◌<◌, ◌≤◌, max, Bool, true, false, cond, fold, filter, List, [], ◌∷◌, length, get_or, take, Some, None, Ok, sum, Option, sym, refl, ap, ◌∙◌, inl, inr, arith}
+use Rattle.std.proofs.lemmas.List.{get_or_past}
 use Rattle.std.proofs.lemmas.List.Sums.{sum_by-take-drop, sum_by-drop_more}
 use Rattle.std.proofs.lemmas.Bool.{cases_lt}
 use Rattle.charts.specs.declared.parts.Event.{Event}
 use Rattle.charts.specs.declared.faults.Fault.{Fault}
 use Rattle.charts.specs.declared.parts.Summary.{Summary}
-use Rattle.charts.specs.Events.{no_event}
+use Rattle.charts.specs.Events.{no_event, is_message}
 use Rattle.charts.specs.Lists.{column, count_of, event_of}
-use Rattle.charts.specs.Span.{above, span_of}
+use Rattle.charts.specs.Span.{span_of}
 use Rattle.charts.specs.Judged.{summed, unspoiled}
 use Rattle.checks.specs.Cut.{cut}
 use Rattle.checks.specs.Checked.{checked}
@@ -22,20 +22,16 @@ use Rattle.tables.specs.TableLists.{table_lists}
 
 module _ (ns : List ℕ) (es : List Event) where
   -- the size of the chart, where no rule is broken
-  pub sized : None ≡ checked ns es → Ok (record { width = length ns; events = length es; span = span_of es }) ≡ summed (checked ns es) (table_lists ns es)
+  pub sized : checked ns es ≡ None → Ok (record { width = length ns; events = length es; span = span_of es }) ≡ summed (checked ns es) (table_lists ns es)
   sized e =
-      let even = (passed_from ns es (sym e)).even in
+      let even = (passed_from ns es e).even in
       let w = sym (cut_length ns es) in
       let z = sym (cut_size ns es even) in
       let v = sym (cut_span ns es even) in
-      ap Ok (λ t. record { width = w t; events = z t; span = v t }) ∙ ap (λ (f : Option Fault). summed f (unspoiled f (cut ns es))) e
+      ap Ok (λ t. record { width = w t; events = z t; span = v t }) ∙ ap (λ (f : Option Fault). summed f (unspoiled f (cut ns es))) (sym e)
 
-  -- the fault, where one is
-  pub blamed_so : (f : Fault) → Some f ≡ checked ns es → Err f ≡ summed (checked ns es) (table_lists ns es)
-  blamed_so f e = ap (λ (x : Option Fault). summed x (unspoiled x (cut ns es))) e
-
-  pub not_sound : (f : Fault) → Some f ≡ checked ns es → SoundTable ns es → ⊥
-  not_sound f e s = some_none f (e ∙ sound_checked ns es s)
+  pub not_sound : (f : Fault) → checked ns es ≡ Some f → SoundTable ns es → ⊥
+  not_sound f e s = some_none f (sym e ∙ sound_checked ns es s)
 
   -- the table's lists where its summary is answered, and where a fault is
   pub whole : (s : Summary) → Ok s ≡ summed (checked ns es) (table_lists ns es) → Passed ns es
@@ -76,12 +72,18 @@ module _ (ns : List ℕ) (es : List Event) where
   pub inside : (i k : ℕ) → k < count_of (table_lists ns es) i → Inside i k
   inside i k h = inside_at (checked ns es) i k refl h
 
--- one event more in a span
-pub span_more : (es : List Event) (k s n : ℕ) → k < length es → n ≡ max s (above (get_or es k no_event)) → max s (span_of (drop k es)) ≡ max n (span_of (drop (k + 1) es))
-span_more es k s n h e = let d = at_drop_more span_of es k no_event h in omega arith
+-- the span is the greatest that its messages give
+fold_step : (s : ℕ) (e : Event) (es : List Event) (t : Bool) → ((r : ℕ) → fold (λ s e. max s (e.number + 1)) r (filter is_message es) ≡ max r (span_of es)) →
+    fold (λ s e. max s (e.number + 1)) s (cond t (e ∷ filter is_message es) (filter is_message es)) ≡ max s (max (cond t (suc e.number) 0) (span_of es))
+fold_step s e es true r = let h = r (max s (e.number + 1)) in omega arith
+fold_step s e es false r = let h = r s in omega arith
 
-pub span_done : (es : List Event) (k s : ℕ) → length es ≤ k → max s (span_of (drop k es)) ≡ s
-span_done es k s h = let d = at_drop_all span_of es k h in omega arith
+fold_from : (s : ℕ) (es : List Event) → fold (λ s e. max s (e.number + 1)) s (filter is_message es) ≡ max s (span_of es)
+fold_from s [] = omega arith
+fold_from s (e ∷ es) = fold_step s e es (is_message e) (λ r. fold_from r es)
+
+pub span_fold : (es : List Event) → fold (λ s e. max s (e.number + 1)) 0 (filter is_message es) ≡ span_of es
+span_fold es = let h = fold_from 0 es in omega arith
 
 -- past its count an instance has no event
 pub outside : (L : List (List Event)) (i k : ℕ) → count_of L i ≤ k → no_event ≡ event_of L i k

@@ -1,5 +1,5 @@
 pub mod Locating
 pub mod Passing
-pub mod Rows
-pub mod Matching
+pub mod Indexing
+pub mod Checking
 pub mod Answering

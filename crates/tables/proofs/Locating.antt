@@ -10,15 +10,19 @@ module _ (ns : List ℕ) (i left : ℕ) where
     pub instance : instance_of ns at ≡ i + instance_of (drop i ns) left
     pub index : index_of ns at ≡ index_of (drop i ns) left
 
+-- the place is that of the event at
+abbrev pub IsPlace : List ℕ → ℕ → ℕ → ℕ → Type 0
+IsPlace ns at i left = record { instance : i ≡ instance_of ns at; index : left ≡ index_of ns at }
+
 module _ (ns : List ℕ) (at i left n : ℕ) (h : i < length ns) (is : n ≡ get_or ns i 0) (on : On ns i left at) where
-  pub stops : left < n → (i ≡ instance_of ns at) × (left ≡ index_of ns at)
+  pub stops : left < n → IsPlace ns at i left
   stops l =
       let m : left < get_or ns i 0 = omega arith in
       let a = at_drop_more (λ xs. instance_of xs left) ns i 0 h ∙ instance_here (get_or ns i 0) (drop (i + 1) ns) left m in
       let b = at_drop_more (λ xs. index_of xs left) ns i 0 h ∙ index_here (get_or ns i 0) (drop (i + 1) ns) left m in
       let x = on.instance in
       let y = on.index in
-      (omega arith, omega arith)
+      record { instance = omega arith; index = omega arith }
 
   pub goes : n ≤ left → On ns (i + 1) (left - n) at
   goes l =
@@ -29,10 +33,10 @@ module _ (ns : List ℕ) (at i left n : ℕ) (h : i < length ns) (is : n ≡ get
       let x = on.instance in
       record { instance = omega arith; index = on.index ∙ b }
 
-pub ended : (ns : List ℕ) (at i left : ℕ) → length ns ≤ i → i ≤ length ns → On ns i left at → (length ns ≡ instance_of ns at) × (left ≡ index_of ns at)
+pub ended : (ns : List ℕ) (at i left : ℕ) → length ns ≤ i → i ≤ length ns → On ns i left at → IsPlace ns at (length ns) left
 ended ns at i left h g on =
     let a = at_drop_all (λ xs. instance_of xs left) ns i h in
     let b = at_drop_all (λ xs. index_of xs left) ns i h in
     let x = on.instance in
     let y = on.index in
-    (omega arith, omega arith)
+    record { instance = omega arith; index = omega arith }

@@ -12,11 +12,11 @@ abbrev pub Clean : (ℕ → Event → Option ℕ) → List ℕ → List Event �
 Clean rule ns es k = scan rule ns k (drop k es) ≡ scan rule ns 0 es
 
 module _ (rule : ℕ → Event → Option ℕ) (ns : List ℕ) (es : List Event) (k : ℕ) (clean : Clean rule ns es k) where
-  pub stop : (f : Fault) (n : ℕ) → k < length es → f ≡ table_fault n (instance_of ns k) (index_of ns k) → rule k (get_or es k no_event) ≡ Some n → Some f ≡ scan rule ns 0 es
-  stop f n h is broken = ap Some is ∙ sym (scan_stop rule ns es k n h broken) ∙ clean
+  pub stop : (f : Fault) (n : ℕ) → k < length es → f ≡ table_fault n (instance_of ns k) (index_of ns k) → rule k (get_or es k no_event) ≡ Some n → scan rule ns 0 es ≡ Some f
+  stop f n h is broken = sym clean ∙ scan_stop rule ns es k n h broken ∙ ap (λ (x : Fault). Some x) (sym is)
 
   pub onward : k < length es → rule k (get_or es k no_event) ≡ None → Clean rule ns es (k + 1)
   onward h kept = sym (scan_pass rule ns es k h kept) ∙ clean
 
-  pub finish : length es ≤ k → None ≡ scan rule ns 0 es
-  finish h = sym (scan_end rule ns es k h) ∙ clean
+  pub finish : length es ≤ k → scan rule ns 0 es ≡ None
+  finish h = sym clean ∙ scan_end rule ns es k h

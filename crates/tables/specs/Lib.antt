@@ -1,2 +1,3 @@
+pub mod Findings
 pub mod Seen
 pub mod TableLists

@@ -2,7 +2,6 @@
 #![tactic(auto)]
 
 mod layout;
-mod message_places;
 mod passes;
 mod spans;
 mod table;

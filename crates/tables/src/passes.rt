@@ -1,192 +1,123 @@
-ghost use Rattle.std.specs.Prelude.{◌≡◌, ℕ, ◌<◌, ◌≤◌, length, get_or, IfOk, Some, None, MatchResult, slice_index_or};
+ghost use Rattle.std.specs.Prelude.{◌≡◌, ℕ, ◌+◌, ◌<◌, length, IfOk, None, slice_index_or};
 ghost use Rattle.charts.specs.Events.{no_event};
-ghost use Rattle.checks.specs.Cut.{instance_of, index_of};
-ghost use Rattle.checks.specs.Rules.{well_formed, not_repeated, other_kind, joins, has_match, matched};
-ghost use Rattle.checks.specs.Checked.{table_fault, scan, checked};
+ghost use Rattle.checks.specs.Cut.{instance_of};
+ghost use Rattle.checks.specs.Rules.{well_formed, not_repeated, joins, matched};
+ghost use Rattle.checks.specs.Checked.{checked};
+ghost use Rattle.tables.specs.Findings.{misformed, repeated, unmatched, Finds, Breaks};
 ghost use Rattle.tables.specs.Seen.{Seen};
 
-use crate::layout::{locate, total};
-use crate::message_places::{MessagePlaces, NOWHERE};
-use charts::{
-    ACTION, ENVIRONMENT, Event, Fault, INPUT, MOST_EVENTS, MOST_INSTANCES, MOST_NUMBER, OUTPUT,
-};
+use crate::layout::Layout;
+use charts::{Event, Fault, Kind, Layer, MOST_NUMBER, Peer, Rule};
+use messages::{End, MessagePlaces};
 
-// The rules of a table, by number.
-const LENGTHS: u8 = 11;
-
-const EVENTS: u8 = 12;
-
-const SUM: u8 = 13;
-
-const KIND: u8 = 14;
-
-const PEER: u8 = 15;
-
-const NUMBER: u8 = 16;
-
-const REPEATED: u8 = 17;
-
-const UNMATCHED: u8 = 18;
-
-// The layer of a fault that a table finds.
-const LAYER: u8 = 1;
-
-// The fault of a table as a whole.
-fn spoiled(number: u8) -> Fault
-    ensures { result ≡ table_fault number 0 0 }
+// Whether an event is well formed, or the first rule on its kind, peer and number that it breaks.
+fn check_form(width: usize, e: &Event) -> Result<(), Rule>
+    ensures { (k : ℕ) → Breaks (well_formed width k e.now) result }
 {
-    Fault {
-        number,
-        instance: 0,
-        event: 0,
-        layer: LAYER,
-    }
-}
-
-// The fault at the table's event k.
-fn blame(lengths: &[u16], k: usize, number: u8) -> Fault
-    requires few { length lengths.now ≤ 32 }
-    requires within { k < 4096 }
-    ensures { result ≡ table_fault number (instance_of lengths.now k) (index_of lengths.now k) }
-{
-    let place = locate(lengths, k);
-    Fault {
-        number,
-        instance: place.instance as u8,
-        event: place.index as u16,
-        layer: LAYER,
-    }
-}
-
-// The first rule on its kind, peer and number that the event breaks.
-fn malformed(width: usize, e: &Event) -> Option<u8>
-    ensures { (k : ℕ) → result ≡ well_formed width k e.now }
-{
-    match (e.kind, e.peer) {
-        (OUTPUT..=ACTION, ENVIRONMENT) => {}
-        (OUTPUT | INPUT, peer @ 0..ENVIRONMENT) if usize::from(peer) < width => {}
-        (OUTPUT..=ACTION, _) => return Some(PEER),
-        (_, _) => return Some(KIND),
+    match (Kind::try_from(e.kind), Peer::from(e.peer)) {
+        (Err(_), _) => return Err(Rule::Kind),
+        (Ok(_), Peer::Environment) => {}
+        (Ok(Kind::Output | Kind::Input), Peer::Instance(i)) if usize::from(i) < width => {}
+        (Ok(_), Peer::Instance(_)) => return Err(Rule::Peer),
     }
     if e.number > MOST_NUMBER {
-        Some(NUMBER)
-    } else {
-        None
+        return Err(Rule::Number);
     }
+    Ok(())
 }
 
-// The first event that is not well formed.
-fn first_malformed(lengths: &[u16], events: &[Event]) -> Option<Fault>
-    requires few { length lengths.now ≤ 32 }
-    requires short { length events.now ≤ 4096 }
-    ensures { result ≡ scan (well_formed (length lengths.now)) lengths.now 0 events.now }
-{
-    for (k, e) in events.iter().enumerate() {
-        if let Some(number) = malformed(lengths.len(), e) {
-            return Some(blame(lengths, k, number));
-        }
-    }
-    None
-}
-
-// Where the messages stand in the table, or the first event that is the second of its message and kind.
-fn index_messages(lengths: &[u16], events: &[Event]) -> Result<MessagePlaces, Fault>
-    requires few { length lengths.now ≤ 32 }
-    requires short { length events.now ≤ 4096 }
-    requires formed { scan (well_formed (length lengths.now)) lengths.now 0 events.now ≡ None }
-    ensures repeats { MatchResult result (λ p. scan (not_repeated events.now) lengths.now 0 events.now ≡ None) (λ f. scan (not_repeated events.now) lengths.now 0 events.now ≡ Some f) }
-    ensures places { IfOk result (λ p. Seen events.now (length events.now) p.outputs p.inputs) }
-{
-    let mut places = MessagePlaces::new();
-    for (k, e) in events.iter().enumerate() {
-        if e.is_message() {
-            if places.find(e.kind, e.number) != NOWHERE {
-                return Err(blame(lengths, k, REPEATED));
+impl Layout<'_, '_> {
+    // The events one by one for their form.
+    fn check_forms(&self) -> Result<(), Fault>
+        ensures { Finds (misformed self.now.lengths.now self.now.events.now) result }
+    {
+        for (k, e) in self.events.iter().enumerate() {
+            if let Err(rule) = check_form(self.lengths.len(), e) {
+                return Err(self.blame(k, rule));
             }
-            places.put(e.kind, e.number, k as u16);
+        }
+        Ok(())
+    }
+
+    // Where the messages stand, if no event is the second of its message and kind.
+    fn index_messages(&self) -> Result<MessagePlaces, Fault>
+        requires formed { misformed self.now.lengths.now self.now.events.now ≡ None }
+        ensures repeats { Finds (repeated self.now.lengths.now self.now.events.now) result }
+        ensures places { IfOk result (λ p. Seen self.now.events.now (length self.now.events.now) p) }
+    {
+        let mut places = MessagePlaces::new();
+        for k in 0..self.events.len() {
+            if let Err(rule) = self.note_message(k, &mut places) {
+                return Err(self.blame(k, rule));
+            }
+        }
+        Ok(places)
+    }
+
+    // Notes where event k stands, if it is of a message, and not the second of its kind.
+    fn note_message(&self, k: usize, places: &mut MessagePlaces) -> Result<(), Rule>
+        requires within { k < length self.now.events.now }
+        requires formed { misformed self.now.lengths.now self.now.events.now ≡ None }
+        requires seen { Seen self.now.events.now k places.old }
+        ensures repeats { Breaks (not_repeated self.now.events.now k (slice_index_or self.now.events.now k no_event)) result }
+        ensures seen { IfOk result (λ _. Seen self.now.events.now (k + 1) places.new) }
+    {
+        let e = self.events[k];
+        if let Some(end) = End::of(e) {
+            if places.find(end, e.number).is_some() {
+                return Err(Rule::Repeated);
+            }
+            places.note(end, e.number, k as u16);
+        }
+        Ok(())
+    }
+
+    // Whether the event at p is on instance i, and its peer is the instance of event k.
+    fn is_joined(&self, p: usize, i: usize, k: usize) -> bool
+        requires { p < length self.now.events.now }
+        ensures { result ≡ joins self.now.lengths.now self.now.events.now p i (instance_of self.now.lengths.now k) }
+    {
+        self.locate(p).instance == i
+            && usize::from(self.events[p].peer) == self.locate(k).instance
+    }
+
+    // Whether event k, e, has its match, if it is of a message: with the environment, none; else the other end on its peer.
+    fn check_match(&self, k: usize, e: &Event, places: &MessagePlaces) -> Result<(), Rule>
+        requires { Seen self.now.events.now (length self.now.events.now) places.now }
+        ensures { Breaks (matched self.now.lengths.now self.now.events.now k e.now) result }
+    {
+        let Some(end) = End::of(*e) else {
+            return Ok(());
+        };
+        match (Peer::from(e.peer), places.find(end.other(), e.number)) {
+            (Peer::Environment, None) => Ok(()),
+            (Peer::Instance(i), Some(p)) if self.is_joined(usize::from(p), usize::from(i), k) => {
+                Ok(())
+            }
+            _ => Err(Rule::Unmatched),
         }
     }
-    Ok(places)
-}
 
-// An input for an output, and the reverse.
-fn other_kind(kind: u8) -> u8
-    ensures { result ≡ other_kind kind }
-{
-    match kind {
-        OUTPUT => INPUT,
-        _ => OUTPUT,
-    }
-}
-
-// Whether the event at p is on instance i, and its peer is j.
-fn is_joined(lengths: &[u16], events: &[Event], p: usize, i: usize, j: usize) -> bool
-    requires { p < length events.now }
-    ensures { result ≡ joins lengths.now events.now p i j }
-{
-    locate(lengths, p).instance == i && usize::from(events[p].peer) == j
-}
-
-// Whether the other event of the message stands on the peer; with the environment, whether there is none.
-fn has_match(lengths: &[u16], events: &[Event], places: &MessagePlaces, k: usize) -> bool
-    requires short { length events.now ≤ 4096 }
-    requires within { k < length events.now }
-    requires number { (get_or events.now k no_event).number < 4096 }
-    requires seen { Seen events.now (length events.now) places.now.outputs places.now.inputs }
-    ensures { result ≡ has_match lengths.now events.now k (slice_index_or events.now k no_event) }
-{
-    let e = events[k];
-    let partner = places.find(other_kind(e.kind), e.number);
-    match (e.peer, partner) {
-        (ENVIRONMENT, _) => partner == NOWHERE,
-        (_, NOWHERE) => false,
-        (peer, _) => {
-            let here = locate(lengths, k).instance;
-            is_joined(
-                lengths,
-                events,
-                usize::from(partner),
-                usize::from(peer),
-                here,
-            )
+    // The events one by one for their matches.
+    fn check_matches(&self, places: &MessagePlaces) -> Result<(), Fault>
+        requires { Seen self.now.events.now (length self.now.events.now) places.now }
+        ensures { Finds (unmatched self.now.lengths.now self.now.events.now) result }
+    {
+        for (k, e) in self.events.iter().enumerate() {
+            if let Err(rule) = self.check_match(k, e, places) {
+                return Err(self.blame(k, rule));
+            }
         }
+        Ok(())
     }
 }
 
-// The first event of a message that has no match, or that is with the environment and not alone.
-fn first_unmatched(lengths: &[u16], events: &[Event], places: &MessagePlaces) -> Option<Fault>
-    requires few { length lengths.now ≤ 32 }
-    requires short { length events.now ≤ 4096 }
-    requires formed { scan (well_formed (length lengths.now)) lengths.now 0 events.now ≡ None }
-    requires seen { Seen events.now (length events.now) places.now.outputs places.now.inputs }
-    ensures { result ≡ scan (matched lengths.now events.now) lengths.now 0 events.now }
+// Whether the table is sound, or what is wrong with it.
+pub(crate) fn check(lengths: &[u16], events: &[Event]) -> Result<(), Fault>
+    ensures { Finds (checked lengths.now events.now) result }
 {
-    for (k, e) in events.iter().enumerate() {
-        if e.is_message() && !has_match(lengths, events, places, k) {
-            return Some(blame(lengths, k, UNMATCHED));
-        }
-    }
-    None
-}
-
-// What is wrong with the table, if anything.
-pub(crate) fn check(lengths: &[u16], events: &[Event]) -> Option<Fault>
-    ensures { result ≡ checked lengths.now events.now }
-{
-    if lengths.len() > MOST_INSTANCES {
-        return Some(spoiled(LENGTHS));
-    }
-    if events.len() > MOST_EVENTS {
-        return Some(spoiled(EVENTS));
-    }
-    if total(lengths) != events.len() {
-        return Some(spoiled(SUM));
-    }
-    if let Some(fault) = first_malformed(lengths, events) {
-        return Some(fault);
-    }
-    match index_messages(lengths, events) {
-        Err(fault) => Some(fault),
-        Ok(places) => first_unmatched(lengths, events, &places),
-    }
+    let layout = Layout::new(lengths, events).map_err(|rule| Fault::of_whole(Layer::Table, rule))?;
+    layout.check_forms()?;
+    let places = layout.index_messages()?;
+    layout.check_matches(&places)
 }

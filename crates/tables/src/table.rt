@@ -41,7 +41,7 @@ impl<'l, 'e> Table<'l, 'e> {
         if k >= self.count(i) {
             return None;
         }
-        Some(total(&self.lengths[0..i]) + k)
+        Some(total(&self.lengths[..i]) + k)
     }
 }
 
@@ -58,16 +58,12 @@ impl<'l, 'e> Chart for Table<'l, 'e> {
 
     fn count(&self, i: usize) -> usize {
         match self.verdict {
-            Ok(_) if i < self.lengths.len() => usize::from(self.lengths[i]),
-            Ok(_) => 0,
+            Ok(_) => self.lengths.get(i).map_or(0, |n| usize::from(*n)),
             Err(_) => 0,
         }
     }
 
     fn event(&self, i: usize, k: usize) -> Event {
-        match self.place(i, k) {
-            Some(at) => self.events[at],
-            None => NO_EVENT,
-        }
+        self.place(i, k).map_or(NO_EVENT, |at| self.events[at])
     }
 }

@@ -13,12 +13,10 @@ pub(crate) fn judge(lengths: &[u16], events: &[Event]) -> Result<Summary, Fault>
     ensures judged { result ≡ summed (checked lengths.now events.now) (table_lists lengths.now events.now) }
     ensures sound { MatchResult result (λ _. SoundTable lengths.now events.now) (λ _. SoundTable lengths.now events.now → ⊥) }
 {
-    match check(lengths, events) {
-        Some(fault) => Err(fault),
-        None => Ok(Summary {
-            width: lengths.len(),
-            events: events.len(),
-            span: span_of(events),
-        }),
-    }
+    check(lengths, events)?;
+    Ok(Summary {
+        width: lengths.len(),
+        events: events.len(),
+        span: span_of(events),
+    })
 }

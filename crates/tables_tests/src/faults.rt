@@ -1,4 +1,6 @@
 use crate::cases::{action, at, fault_of, input, out, unknown};
+use charts::Peer::{Environment, Instance};
+use charts::{Event, Kind};
 
 #[test]
 fn lengths(rt: HostRuntime) {
@@ -35,30 +37,38 @@ fn kinds(rt: HostRuntime) {
 
 #[test]
 fn peers(rt: HostRuntime) {
-    assert_eq!(rt; fault_of(&[1, 1], &[out(2, 0), input(0, 0)]), at(15, 0, 0));
     assert_eq!(rt;
-        fault_of(&[1, 1], &[out(1, 0), input(254, 0)]),
+        fault_of(&[1, 1], &[out(Instance(2), 0), input(Instance(0), 0)]),
+        at(15, 0, 0)
+    );
+    assert_eq!(rt;
+        fault_of(&[1, 1], &[out(Instance(1), 0), input(Instance(254), 0)]),
         at(15, 1, 0)
     );
-    assert_eq!(rt; fault_of(&[1, 1], &[out(1, 0), input(0, 0)]), None);
+    assert_eq!(rt;
+        fault_of(&[1, 1], &[out(Instance(1), 0), input(Instance(0), 0)]),
+        None
+    );
 }
 
 #[test]
 fn an_action_with_an_instance(rt: HostRuntime) {
-    let mut e = action(7);
-    e.peer = 0;
+    let e = Event::new(Kind::Action, Instance(0), 7);
     assert_eq!(rt; fault_of(&[2], &[action(7), e]), at(15, 0, 1));
 }
 
 #[test]
 fn numbers(rt: HostRuntime) {
-    assert_eq!(rt; fault_of(&[2], &[action(4095), out(255, 4095)]), None);
     assert_eq!(rt;
-        fault_of(&[2], &[action(4096), out(255, 4095)]),
+        fault_of(&[2], &[action(4095), out(Environment, 4095)]),
+        None
+    );
+    assert_eq!(rt;
+        fault_of(&[2], &[action(4096), out(Environment, 4095)]),
         at(16, 0, 0)
     );
     assert_eq!(rt;
-        fault_of(&[1, 1], &[action(4095), out(255, 4096)]),
+        fault_of(&[1, 1], &[action(4095), out(Environment, 4096)]),
         at(16, 1, 0)
     );
 }
@@ -66,42 +76,71 @@ fn numbers(rt: HostRuntime) {
 #[test]
 fn repeats(rt: HostRuntime) {
     assert_eq!(rt;
-        fault_of(&[2, 1], &[out(1, 5), out(1, 5), input(0, 5)]),
+        fault_of(
+            &[2, 1],
+            &[
+                out(Instance(1), 5),
+                out(Instance(1), 5),
+                input(Instance(0), 5)
+            ]
+        ),
         at(17, 0, 1)
     );
     assert_eq!(rt;
-        fault_of(&[1, 2], &[out(1, 5), input(0, 5), input(0, 5)]),
+        fault_of(
+            &[1, 2],
+            &[
+                out(Instance(1), 5),
+                input(Instance(0), 5),
+                input(Instance(0), 5)
+            ]
+        ),
         at(17, 1, 1)
     );
     assert_eq!(rt;
-        fault_of(&[1, 1], &[out(255, 4095), out(255, 4095)]),
+        fault_of(&[1, 1], &[out(Environment, 4095), out(Environment, 4095)]),
         at(17, 1, 0)
     );
 }
 
 #[test]
 fn matches(rt: HostRuntime) {
-    assert_eq!(rt; fault_of(&[1, 1], &[out(1, 5), action(5)]), at(18, 0, 0));
-    assert_eq!(rt; fault_of(&[1, 1], &[action(5), input(0, 5)]), at(18, 1, 0));
-    assert_eq!(rt; fault_of(&[1, 1], &[out(1, 5), input(1, 5)]), at(18, 0, 0));
     assert_eq!(rt;
-        fault_of(&[1, 1, 1], &[out(1, 5), action(0), input(0, 5)]),
+        fault_of(&[1, 1], &[out(Instance(1), 5), action(5)]),
+        at(18, 0, 0)
+    );
+    assert_eq!(rt;
+        fault_of(&[1, 1], &[action(5), input(Instance(0), 5)]),
+        at(18, 1, 0)
+    );
+    assert_eq!(rt;
+        fault_of(&[1, 1], &[out(Instance(1), 5), input(Instance(1), 5)]),
+        at(18, 0, 0)
+    );
+    assert_eq!(rt;
+        fault_of(
+            &[1, 1, 1],
+            &[out(Instance(1), 5), action(0), input(Instance(0), 5)]
+        ),
         at(18, 0, 0)
     );
 }
 
 #[test]
 fn the_environment(rt: HostRuntime) {
-    assert_eq!(rt; fault_of(&[2], &[out(255, 5), input(255, 6)]), None);
     assert_eq!(rt;
-        fault_of(&[1, 1], &[out(255, 5), input(255, 5)]),
+        fault_of(&[2], &[out(Environment, 5), input(Environment, 6)]),
+        None
+    );
+    assert_eq!(rt;
+        fault_of(&[1, 1], &[out(Environment, 5), input(Environment, 5)]),
         at(18, 0, 0)
     );
     assert_eq!(rt;
-        fault_of(&[1, 1], &[out(255, 5), input(0, 5)]),
+        fault_of(&[1, 1], &[out(Environment, 5), input(Instance(0), 5)]),
         at(18, 0, 0)
     );
-    assert_eq!(rt; fault_of(&[1, 1], &[out(255, 5), action(5)]), None);
+    assert_eq!(rt; fault_of(&[1, 1], &[out(Environment, 5), action(5)]), None);
 }
 
 #[test]
@@ -109,33 +148,61 @@ fn two_faults_at_once(rt: HostRuntime) {
     assert_eq!(rt; fault_of(&[0; 33], &[action(0); 4097]), at(11, 0, 0));
     assert_eq!(rt; fault_of(&[0], &[action(0); 4097]), at(12, 0, 0));
     assert_eq!(rt; fault_of(&[2], &[unknown(9)]), at(13, 0, 0));
-    assert_eq!(rt; fault_of(&[2], &[unknown(9), out(9, 0)]), at(14, 0, 0));
-    assert_eq!(rt; fault_of(&[2], &[out(9, 0), unknown(9)]), at(15, 0, 0));
+    assert_eq!(rt;
+        fault_of(&[2], &[unknown(9), out(Instance(9), 0)]),
+        at(14, 0, 0)
+    );
+    assert_eq!(rt;
+        fault_of(&[2], &[out(Instance(9), 0), unknown(9)]),
+        at(15, 0, 0)
+    );
 }
 
 #[test]
 fn two_faults_in_one_event(rt: HostRuntime) {
-    let mut e = unknown(0);
-    e.peer = 9;
-    e.number = 4096;
+    let e = Event {
+        kind: 0,
+        peer: 9,
+        number: 4096,
+    };
     assert_eq!(rt; fault_of(&[1], &[e]), at(14, 0, 0));
-    assert_eq!(rt; fault_of(&[1], &[out(9, 4096)]), at(15, 0, 0));
-    assert_eq!(rt; fault_of(&[1], &[out(255, 4096)]), at(16, 0, 0));
+    assert_eq!(rt; fault_of(&[1], &[out(Instance(9), 4096)]), at(15, 0, 0));
+    assert_eq!(rt; fault_of(&[1], &[out(Environment, 4096)]), at(16, 0, 0));
 }
 
 #[test]
 fn a_later_pass_waits(rt: HostRuntime) {
     assert_eq!(rt;
-        fault_of(&[3], &[out(255, 1), out(255, 1), action(4096)]),
+        fault_of(
+            &[3],
+            &[out(Environment, 1), out(Environment, 1), action(4096)]
+        ),
         at(16, 0, 2)
     );
     assert_eq!(rt;
-        fault_of(&[3], &[out(0, 1), out(255, 2), out(255, 2)]),
+        fault_of(
+            &[3],
+            &[
+                out(Instance(0), 1),
+                out(Environment, 2),
+                out(Environment, 2)
+            ]
+        ),
         at(17, 0, 2)
     );
     assert_eq!(rt;
-        fault_of(&[3], &[out(255, 2), out(255, 2), out(0, 1)]),
+        fault_of(
+            &[3],
+            &[
+                out(Environment, 2),
+                out(Environment, 2),
+                out(Instance(0), 1)
+            ]
+        ),
         at(17, 0, 1)
     );
-    assert_eq!(rt; fault_of(&[2], &[out(0, 1), out(0, 2)]), at(18, 0, 0));
+    assert_eq!(rt;
+        fault_of(&[2], &[out(Instance(0), 1), out(Instance(0), 2)]),
+        at(18, 0, 0)
+    );
 }
