@@ -1,35 +1,31 @@
 -- One chart after another, from what its parts answer.
-use Rattle.std.proofs.Common.{◌≡◌, ℕ, ◌+◌, ◌-◌, ◌<◌, ◌≤◌, max, List, length, None, Option, sym, ap, ◌∙◌, arith}
+use Rattle.std.proofs.Common.{◌≡◌, ℕ, ◌+◌, ◌-◌, ◌<◌, ◌≤◌, max, List, length, false, is_some, Ok, Option, sym, ap, ◌∙◌, arith}
 use Rattle.charts.specs.declared.parts.Event.{Event}
 use Rattle.charts.specs.declared.faults.Fault.{Fault}
 use Rattle.charts.specs.declared.parts.Summary.{Summary}
+use Rattle.charts.specs.Judged.{summed}
 use Rattle.charts.specs.Lists.{size, count_of, event_of}
 use Rattle.charts.specs.Span.{span}
 use Rattle.joining.specs.After.{after}
 use Rattle.joining.specs.Joined.{join_trouble, join_lists}
 use Rattle.joining.specs.Moves.{moved}
 use Rattle.joining.proofs.Afters.{after_length, after_size, after_span, after_count, after_first, after_second}
-use Rattle.joins.specs.declared.pairs.Pair.{Pair}
-use Rattle.joins.specs.Weighed.{sized}
-use Rattle.joins.proofs.Weights.{Both, whole_from}
+use Rattle.joins.specs.Weighed.{weighed, limited_to}
+use Rattle.joins.proofs.Weights.{limited_so, whole_from}
 
 -- the size of one chart after another, from theirs
-pub after_sized : (f g : Option Fault) (L K : List (List Event)) (p : Pair) → Both f g L K p →
-    record { width = max p.first.width p.second.width; events = p.first.events + p.second.events; span = p.first.span + p.second.span } ≡ sized (after L K)
-after_sized f g L K p b =
-    let w1 = ap (λ (s : Summary). s.width) b.first in
-    let w2 = ap (λ (s : Summary). s.width) b.second in
-    let e1 = ap (λ (s : Summary). s.events) b.first in
-    let e2 = ap (λ (s : Summary). s.events) b.second in
-    let s1 = ap (λ (s : Summary). s.span) b.first in
-    let s2 = ap (λ (s : Summary). s.span) b.second in
-    let w : max p.first.width p.second.width ≡ length (after L K) = let a = after_length L K in omega arith in
-    let e : p.first.events + p.second.events ≡ size (after L K) = let a = after_size L K in omega arith in
-    let s : p.first.span + p.second.span ≡ span (after L K) = let a = after_span L K in omega arith in
-    λ t. record { width = w t; events = e t; span = s t }
+pub after_summed : (f g : Option Fault) (L K : List (List Event)) (a b : Summary) (w : ℕ) → Ok (a, b) ≡ weighed f g L K → w ≡ max a.width b.width →
+    limited_to 3 (record { width = w; events = a.events + b.events; span = a.span + b.span }) ≡ summed (join_trouble 3 f g (after L K)) (join_lists 3 f g (after L K))
+after_summed f g L K a b w weighed wide =
+    limited_so 3 f g L K (after L K) a b _ weighed
+    (λ p q.
+    let width : w ≡ length (after L K) = omega (arith, wide, ap (λ (s : Summary). s.width) p, ap (λ (s : Summary). s.width) q, after_length L K) in
+    let events : a.events + b.events ≡ size (after L K) = omega (arith, ap (λ (s : Summary). s.events) p, ap (λ (s : Summary). s.events) q, after_size L K) in
+    let top : a.span + b.span ≡ span (after L K) = omega (arith, ap (λ (s : Summary). s.span) p, ap (λ (s : Summary). s.span) q, after_span L K) in
+    λ t. record { width = width t; events = events t; span = top t })
 
 -- the count and the events of one chart after another, where both are whole
-module _ (f g : Option Fault) (L K : List (List Event)) (w : join_trouble 3 f g (after L K) ≡ None) (i : ℕ) where
+module _ (f g : Option Fault) (L K : List (List Event)) (w : is_some (join_trouble 3 f g (after L K)) ≡ false) (i : ℕ) where
   pub after_counted : count_of L i + count_of K i ≡ count_of (join_lists 3 f g (after L K)) i
   after_counted = sym (ap (λ (J : List (List Event)). count_of J i) (whole_from 3 f g (after L K) w).lists ∙ after_count L K i)
 
