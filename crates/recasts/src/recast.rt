@@ -27,8 +27,8 @@ impl<A: Chart> Recast<A> {
 
     // The instance that becomes i, where there is an instance i.
     fn source(&self, i: usize) -> Option<usize>
-        ensures { let L = A.Chart.lists self.now.chart in let t = self.now.turn.to in let now = column (recast_lists (A.Chart.trouble self.now.chart) L t) i in
-            MatchOption result (now ≡ []) (λ x. now ≡ map (moved (to t) 0) (column L x)) }
+        ensures { let L = A.Chart.lists self.now.chart in let t = self.now.turn.to in let es = column (recast_lists (A.Chart.trouble self.now.chart) L t) i in
+            MatchOption result (es ≡ []) (λ j. es ≡ map (moved (to t) 0) (column L j)) }
     {
         match self.summary() {
             Ok(size) if i < size.width => self.turn.back[i].map(usize::from),
@@ -64,16 +64,16 @@ impl<A: Chart> Chart for Recast<A> {
     }
 
     fn count(&self, i: usize) -> usize {
-        self.source(i).map_or(0, |x| self.chart.count(x))
+        self.source(i).map_or(0, |j| self.chart.count(j))
     }
 
     fn event(&self, i: usize, k: usize) -> Event {
-        let Some(x) = self.source(i) else {
+        let Some(j) = self.source(i) else {
             return NO_EVENT;
         };
-        if k >= self.chart.count(x) {
+        if k >= self.chart.count(j) {
             return NO_EVENT;
         }
-        renamed(self.chart.event(x, k), &self.turn.to)
+        renamed(self.chart.event(j, k), &self.turn.to)
     }
 }

@@ -1,5 +1,7 @@
-ghost use Rattle.std.specs.Prelude.{◌≡◌, ℕ, ◌<◌, ◌≤◌, length, None, unwrap_or, slice_index_or, position, ◌==◌};
+ghost use Rattle.std.specs.Prelude.{◌≡◌, ℕ, ◌<◌, ◌≤◌, length, None, unwrap_or, slice_index_or};
 ghost use Rattle.joining.specs.Recast.{from, turns, turns_below};
+
+use std::array;
 
 // The names that a table gives to instances, and back: the first instance of each name, if there is one.
 #[derive(Clone, Copy)]
@@ -12,20 +14,18 @@ pub(crate) struct Turn {
 }
 
 // The first instance that has the name j.
-fn first_named(to: &[u8], j: u8) -> Option<usize>
-    ensures { result ≡ position (λ name. name == j) to.now }
+fn first_named(to: &[u8], j: u8) -> Option<u8>
+    requires { length to.now ≡ 32 }
+    ensures { unwrap_or result 32 ≡ from to.now j }
 {
-    to.iter().position(|name| *name == j)
+    to.iter().position(|name| *name == j).map(|i| i as u8)
 }
 
 impl Turn {
     pub(crate) fn new(to: [u8; 32]) -> Turn
         ensures { result.to ≡ to }
     {
-        let mut back = [None; 32];
-        for j in 0..32usize {
-            back[j] = first_named(&to, j as u8).map(|i| i as u8);
-        }
+        let back = array::from_fn(|j| first_named(&to, j as u8));
         Turn { to, back }
     }
 

@@ -1,17 +1,8 @@
-use Rattle.std.proofs.Common.{◌≡◌, ◌≢◌, ℕ, None, Option, unwrap_or, ap, ◌∙◌, arith, rules, below_more}
-use Rattle.std.proofs.lemmas.List.{get_or-set_same, get_or-set_other, length-set}
-use Rattle.recasts.proofs.Turning.{position_from}
+use Rattle.std.proofs.Common.{◌≡◌, ℕ, None, Option, unwrap_or, arith, rules}
+use Rattle.joining.specs.Recast.{from}
+use Rattle.recasts.proofs.Turning.{from_fn_each}
 use Rattle.recasts.proofs.turn.Turn.new.Goals as goal
 
-pub loop-j-preserved : goal.loop-j-preserved
-loop-j-preserved c =
-    let back = c.loop-j.back in
-    let j = c.loop-j.j in
-    let first = c.map.result in
-    let same : first ≡ c.first_named.result = search rules in
-    let names = λ (o : Option ℕ). unwrap_or o 32 in (
-      below_more _ _
-          (λ k h. let other : k ≢ j = omega arith in ap names (get_or-set_other back j k first None other) ∙ c.loop-j.invariant.0 k h)
-          (ap names (get_or-set_same back j first None (omega arith) ∙ same ∙ c.first_named.ensures) ∙ position_from c.args.to j (search rules)),
-      length-set back j first ∙ c.loop-j.invariant.1,
-    )
+pub invariant_of-result-clause-inverse : goal.invariant_of-result-clause-inverse
+invariant_of-result-clause-inverse c =
+    λ j h. from_fn_each _ _ c.from_fn-back.result (λ (k : ℕ) (o : Option ℕ). unwrap_or o 32 ≡ from c.args.to k) (λ i y q call. search rules) 0 32 c.from_fn-back.ensures.items.each j None (omega arith) (omega arith)
