@@ -72,6 +72,7 @@ impl<A: Chart, B: Chart> Chart for After<A, B> {
         )
     }
 
+    #[tactic(auto, using(crate::proofs::Following::after_counted))]
     fn count(&self, i: usize) -> usize {
         if self.fault().is_some() {
             return 0;
@@ -79,6 +80,7 @@ impl<A: Chart, B: Chart> Chart for After<A, B> {
         self.first.count(i) + self.second.count(i)
     }
 
+    #[tactic(auto, using(crate::proofs::Following::after_goes_on))]
     fn event(&self, i: usize, k: usize) -> Event {
         if self.fault().is_some() {
             return NO_EVENT;

@@ -82,6 +82,7 @@ impl<A: Chart, B: Chart> Chart for Beside<A, B> {
         self.right.count(i - width)
     }
 
+    #[tactic(auto, using(crate::proofs::Adjoining::right_event))]
     fn event(&self, i: usize, k: usize) -> Event {
         if k >= self.count(i) {
             return NO_EVENT;

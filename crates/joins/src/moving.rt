@@ -1,4 +1,5 @@
 ghost use Rattle.std.specs.Prelude.{◌≡◌, ◌+◌, ◌<◌, ◌≢◌};
+ghost use Rattle.charts.specs.Events.{environment};
 ghost use Rattle.joining.specs.Moves.{moved};
 
 use charts::{Event, Peer};
@@ -20,7 +21,7 @@ pub(crate) fn raised(e: Event, span: usize) -> Event
 // The event with its message's number raised, and its peer, unless that is the environment.
 pub(crate) fn shifted(e: Event, width: usize, span: usize) -> Event
     requires number { e.number + span < 65536 }
-    requires peer { (e.peer ≢ 255) → e.peer + width < 256 }
+    requires peer { (e.peer ≢ environment) → e.peer + width < 256 }
     ensures { result ≡ moved (λ i. i + width) span e }
 {
     let peer = match Peer::from(e.peer) {

@@ -49,7 +49,7 @@ impl Turn {
         (0..width).all(|i| self.turns(width, i))
     }
 
-    // The names back, 32 for a name that no instance has.
+    // The names back. A table has a byte for each, so 32 stands for a name that no instance has.
     pub(crate) fn inverse(&self) -> [u8; 32]
         ensures places { length result ≡ 32 }
         ensures inverse { (j : ℕ) → j < 32 → slice_index_or result j 0 ≡ from self.now.to j }
