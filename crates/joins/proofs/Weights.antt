@@ -1,5 +1,5 @@
 -- What the sizes of two charts tell of their join.
-use Rattle.std.proofs.Common.{◌≡◌, ℕ, ◌<◌, Bool, true, false, cond, List, Some, None, Ok, Err, Option, refl, ap, ◌∙◌, arith}
+use Rattle.std.proofs.Common.{◌≡◌, ℕ, ◌<◌, Bool, true, false, cond, List, Some, None, Ok, Err, Option, is_some, refl, ap, ◌∙◌, arith}
 use Rattle.charts.specs.declared.parts.Event.{Event}
 use Rattle.charts.specs.declared.faults.Fault.{Fault}
 use Rattle.charts.specs.declared.parts.Summary.{Summary}
@@ -8,7 +8,6 @@ use Rattle.charts.specs.Lists.{count_of}
 use Rattle.charts.proofs.Spans.{sound_span}
 use Rattle.charts.proofs.Summaries.{summed_ok}
 use Rattle.joining.specs.Joined.{fits, join_fault, join_trouble, join_lists}
-use Rattle.joins.specs.declared.pairs.Pair.{Pair}
 use Rattle.joins.specs.Weighed.{sized, weighed, Small, limited_to}
 
 pub summed_small : (t : Option Fault) (L : List (List Event)) (s : Summary) → Judged t L → Ok s ≡ summed t L → Small s
@@ -23,53 +22,38 @@ summed_small None L s j e =
     record { width = omega arith; events = omega arith; span = omega arith }
 summed_small (Some f) L s j e = absurd (let z : ◌≡◌ {A = ℕ} 0 1 = cc in omega arith)
 
--- both charts were weighed
-pub record Both (f g : Option Fault) (L K : List (List Event)) (p : Pair) : Type 0 where
-  pub first_whole : f ≡ None
-  pub second_whole : g ≡ None
-  pub first : p.first ≡ sized L
-  pub second : p.second ≡ sized K
-
-pub weighed_ok : (f g : Option Fault) (L K : List (List Event)) (p : Pair) → Ok p ≡ weighed f g L K → Both f g L K p
-weighed_ok None None L K p e = record { first_whole = refl; second_whole = refl; first = cc; second = cc }
-weighed_ok None (Some g) L K p e = absurd (let z : ◌≡◌ {A = ℕ} 0 1 = cc in omega arith)
-weighed_ok (Some f) g L K p e = absurd (let z : ◌≡◌ {A = ℕ} 0 1 = cc in omega arith)
-
-pub weighed_err : (layer : ℕ) (f g : Option Fault) (L K J : List (List Event)) (x : Fault) → Err x ≡ weighed f g L K → Err x ≡ summed (join_trouble layer f g J) (join_lists layer f g J)
-weighed_err layer None None L K J x e = absurd (let z : ◌≡◌ {A = ℕ} 0 1 = cc in omega arith)
-weighed_err layer None (Some g) L K J x e = cc
-weighed_err layer (Some f) g L K J x e = cc
-
 limits : (layer : ℕ) (J : List (List Event)) (b : Bool) → cond b (Ok (sized J)) (Err (join_fault 31 layer)) ≡ summed (cond b None (Some (join_fault 31 layer))) (unspoiled (cond b None (Some (join_fault 31 layer))) J)
 limits layer J true = refl
 limits layer J false = refl
 
--- the size of the join, within the limits or past them
-pub limited_so : (layer : ℕ) (f g : Option Fault) (J : List (List Event)) (s : Summary) → f ≡ None → g ≡ None → s ≡ sized J →
+-- the size of the join, within the limits or past them, from those of its parts
+pub limited_so : (layer : ℕ) (f g : Option Fault) (L K J : List (List Event)) (a b s : Summary) → Ok (a, b) ≡ weighed f g L K → (a ≡ sized L → b ≡ sized K → s ≡ sized J) →
     limited_to layer s ≡ summed (join_trouble layer f g J) (join_lists layer f g J)
-limited_so layer None None J s p q e = ap (limited_to layer) e ∙ limits layer J (fits J)
-limited_so layer None (Some g) J s p q e = absurd (let z : ◌≡◌ {A = ℕ} 0 1 = cc in omega arith)
-limited_so layer (Some f) g J s p q e = absurd (let z : ◌≡◌ {A = ℕ} 0 1 = cc in omega arith)
+limited_so layer None None L K J a b s e same =
+    let sizes : ◌≡◌ {A = Summary × Summary} (a, b) (sized L, sized K) = cc in
+    ap (limited_to layer) (same (ap (λ (x : Summary × Summary). x.0) sizes) (ap (λ (x : Summary × Summary). x.1) sizes)) ∙ limits layer J (fits J)
+limited_so layer None (Some g) L K J a b s e same = absurd (let z : ◌≡◌ {A = ℕ} 0 1 = cc in omega arith)
+limited_so layer (Some f) g L K J a b s e same = absurd (let z : ◌≡◌ {A = ℕ} 0 1 = cc in omega arith)
 
--- a join that is summed up has both parts, and its lists
+-- a join without a fault has both parts, and its lists
 pub record Whole (layer : ℕ) (f g : Option Fault) (J : List (List Event)) : Type 0 where
   pub first : f ≡ None
   pub second : g ≡ None
   pub lists : join_lists layer f g J ≡ J
 
-whole_limits : (layer : ℕ) (J : List (List Event)) (b : Bool) → cond b None (Some (join_fault 31 layer)) ≡ None → unspoiled (cond b None (Some (join_fault 31 layer))) J ≡ J
+whole_limits : (layer : ℕ) (J : List (List Event)) (b : Bool) → is_some (cond b None (Some (join_fault 31 layer))) ≡ false → unspoiled (cond b None (Some (join_fault 31 layer))) J ≡ J
 whole_limits layer J true e = refl
 whole_limits layer J false e = absurd (let z : ◌≡◌ {A = ℕ} 0 1 = cc in omega arith)
 
-pub whole_from : (layer : ℕ) (f g : Option Fault) (J : List (List Event)) → join_trouble layer f g J ≡ None → Whole layer f g J
+pub whole_from : (layer : ℕ) (f g : Option Fault) (J : List (List Event)) → is_some (join_trouble layer f g J) ≡ false → Whole layer f g J
 whole_from layer None None J e = record { first = refl; second = refl; lists = whole_limits layer J (fits J) e }
 whole_from layer None (Some g) J e = absurd (let z : ◌≡◌ {A = ℕ} 0 1 = cc in omega arith)
 whole_from layer (Some f) g J e = absurd (let z : ◌≡◌ {A = ℕ} 0 1 = cc in omega arith)
 
 -- a join with an event has no fault
-pub counted_whole : (layer : ℕ) (f g : Option Fault) (J : List (List Event)) (i k : ℕ) → k < count_of (join_lists layer f g J) i → join_trouble layer f g J ≡ None
+pub counted_whole : (layer : ℕ) (f g : Option Fault) (J : List (List Event)) (i k : ℕ) → k < count_of (join_lists layer f g J) i → is_some (join_trouble layer f g J) ≡ false
 counted_whole layer f g J i k h = go (join_trouble layer f g J) h
   where
-    go : (t : Option Fault) → k < count_of (unspoiled t J) i → t ≡ None
+    go : (t : Option Fault) → k < count_of (unspoiled t J) i → is_some t ≡ false
     go None l = refl
     go (Some x) l = absurd (omega arith)

@@ -6,17 +6,16 @@ use Rattle.charts.specs.declared.parts.Summary.{Summary}
 use Rattle.charts.specs.Lists.{size}
 use Rattle.charts.specs.Span.{span}
 use Rattle.joining.specs.Joined.{join_fault}
-use Rattle.joins.specs.declared.pairs.Pair.{Pair}
 
 -- the size of some lists
 abbrev pub sized : List (List Event) → Summary
 sized L = record { width = length L; events = size L; span = span L }
 
 -- the sizes of both, or the first's fault, or the second's
-abbrev pub weighed : Option Fault → Option Fault → List (List Event) → List (List Event) → Result Pair Fault
+abbrev pub weighed : Option Fault → Option Fault → List (List Event) → List (List Event) → Result (Summary × Summary) Fault
 weighed (Some f) g L K = Err f
 weighed None (Some g) L K = Err g
-weighed None None L K = Ok (record { first = sized L; second = sized K })
+weighed None None L K = Ok (sized L, sized K)
 
 -- a size within the limits of a sound chart
 pub record Small (s : Summary) : Type 0 where

@@ -4,12 +4,10 @@ ghost use Rattle.joining.proofs.Afters.{after_judged};
 
 use crate::moving::raised;
 use crate::weighing::{limited, weigh};
-use charts::{Chart, Event, Fault, NO_EVENT, Summary};
-
-// The layer of a fault that this join finds.
-const LAYER: u8 = 3;
+use charts::{Chart, Event, Fault, Layer, NO_EVENT, Summary};
 
 // Each instance has the events of the first chart, then those of the second.
+// No one type with `Beside` by a rule: only `new` and `into_parts` would be shared, since width, place and moving differ.
 #[derive(Drop)]
 pub struct After<A, B> {
     first: A,
@@ -61,29 +59,32 @@ impl<A: Chart, B: Chart> Chart for After<A, B> {
 
     ghost sound = { λ j. after_judged (A.Chart.trouble j.first) (B.Chart.trouble j.second) (A.Chart.lists j.first) (B.Chart.lists j.second) (A.Chart.sound j.first) (B.Chart.sound j.second) };
 
+    #[tactic(auto, using(crate::proofs::Following::after_summed))]
     fn summary(&self) -> Result<Summary, Fault> {
-        let pair = weigh(&self.first, &self.second)?;
+        let (first, second) = weigh(&self.first, &self.second)?;
         limited(
-            LAYER,
+            Layer::After,
             Summary {
-                width: pair.first.width.max(pair.second.width),
-                events: pair.first.events + pair.second.events,
-                span: pair.first.span + pair.second.span,
+                width: first.width.max(second.width),
+                events: first.events + second.events,
+                span: first.span + second.span,
             },
         )
     }
 
+    #[tactic(auto, using(crate::proofs::Following::after_counted))]
     fn count(&self, i: usize) -> usize {
-        match self.summary() {
-            Ok(_) => self.first.count(i) + self.second.count(i),
-            Err(_) => 0,
+        if self.fault().is_some() {
+            return 0;
         }
+        self.first.count(i) + self.second.count(i)
     }
 
+    #[tactic(auto, using(crate::proofs::Following::after_goes_on))]
     fn event(&self, i: usize, k: usize) -> Event {
-        let Ok(_) = self.summary() else {
+        if self.fault().is_some() {
             return NO_EVENT;
-        };
+        }
         let before = self.first.count(i);
         if k < before {
             return self.first.event(i, k);

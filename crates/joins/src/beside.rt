@@ -4,10 +4,7 @@ ghost use Rattle.joining.proofs.Besides.{beside_judged};
 
 use crate::moving::shifted;
 use crate::weighing::{limited, weigh};
-use charts::{Chart, Event, Fault, NO_EVENT, Summary};
-
-// The layer of a fault that this join finds.
-const LAYER: u8 = 4;
+use charts::{Chart, Event, Fault, Layer, NO_EVENT, Summary};
 
 // The instances of the left chart, then those of the right one.
 #[derive(Drop)]
@@ -61,22 +58,23 @@ impl<A: Chart, B: Chart> Chart for Beside<A, B> {
 
     ghost sound = { λ j. beside_judged (A.Chart.trouble j.left) (B.Chart.trouble j.right) (A.Chart.lists j.left) (B.Chart.lists j.right) (A.Chart.sound j.left) (B.Chart.sound j.right) };
 
+    #[tactic(auto, using(crate::proofs::Adjoining::beside_summed))]
     fn summary(&self) -> Result<Summary, Fault> {
-        let pair = weigh(&self.left, &self.right)?;
+        let (left, right) = weigh(&self.left, &self.right)?;
         limited(
-            LAYER,
+            Layer::Beside,
             Summary {
-                width: pair.first.width + pair.second.width,
-                events: pair.first.events + pair.second.events,
-                span: pair.first.span + pair.second.span,
+                width: left.width + right.width,
+                events: left.events + right.events,
+                span: left.span + right.span,
             },
         )
     }
 
     fn count(&self, i: usize) -> usize {
-        let Ok(_) = self.summary() else {
+        if self.fault().is_some() {
             return 0;
-        };
+        }
         let width = self.left.width();
         if i < width {
             return self.left.count(i);
@@ -84,6 +82,7 @@ impl<A: Chart, B: Chart> Chart for Beside<A, B> {
         self.right.count(i - width)
     }
 
+    #[tactic(auto, using(crate::proofs::Adjoining::right_event))]
     fn event(&self, i: usize, k: usize) -> Event {
         if k >= self.count(i) {
             return NO_EVENT;

@@ -4,7 +4,6 @@
 mod after;
 mod beside;
 mod moving;
-mod pairs;
 mod weighing;
 
 pub use after::After;

@@ -1,7 +1,8 @@
 ghost use Rattle.std.specs.Prelude.{◌≡◌, ◌+◌, ◌<◌, ◌≢◌};
+ghost use Rattle.charts.specs.Events.{environment};
 ghost use Rattle.joining.specs.Moves.{moved};
 
-use charts::{ENVIRONMENT, Event};
+use charts::{Event, Peer};
 
 // The event with its message's number raised.
 pub(crate) fn raised(e: Event, span: usize) -> Event
@@ -12,26 +13,23 @@ pub(crate) fn raised(e: Event, span: usize) -> Event
         return e;
     }
     Event {
-        kind: e.kind,
-        peer: e.peer,
         number: e.number + span as u16,
+        ..e
     }
 }
 
 // The event with its message's number raised, and its peer, unless that is the environment.
 pub(crate) fn shifted(e: Event, width: usize, span: usize) -> Event
     requires number { e.number + span < 65536 }
-    requires peer { (e.peer ≢ 255) → e.peer + width < 256 }
+    requires peer { (e.peer ≢ environment) → e.peer + width < 256 }
     ensures { result ≡ moved (λ i. i + width) span e }
 {
-    let number = raised(e, span).number;
-    let peer = match e.peer {
-        ENVIRONMENT => ENVIRONMENT,
-        instance => instance + width as u8,
+    let peer = match Peer::from(e.peer) {
+        Peer::Instance(i) => Peer::Instance(i + width as u8),
+        Peer::Environment => Peer::Environment,
     };
     Event {
-        kind: e.kind,
-        peer,
-        number,
+        peer: u8::from(peer),
+        ..raised(e, span)
     }
 }

@@ -1,35 +1,18 @@
-use charts::{ACTION, ENVIRONMENT, Event, Fault, INPUT, OUTPUT};
+use charts::{Event, Fault, Kind, Layer, Peer, Rule};
 
-pub(crate) fn out(peer: u8, number: u16) -> Event {
-    Event {
-        kind: OUTPUT,
-        peer,
-        number,
-    }
+pub(crate) fn out(peer: Peer, number: u16) -> Event {
+    Event::new(Kind::Output, peer, number)
 }
 
-pub(crate) fn input(peer: u8, number: u16) -> Event {
-    Event {
-        kind: INPUT,
-        peer,
-        number,
-    }
+pub(crate) fn input(peer: Peer, number: u16) -> Event {
+    Event::new(Kind::Input, peer, number)
 }
 
 pub(crate) fn action(number: u16) -> Event {
-    Event {
-        kind: ACTION,
-        peer: ENVIRONMENT,
-        number,
-    }
+    Event::new(Kind::Action, Peer::Environment, number)
 }
 
-// A fault without a place.
-pub(crate) fn fault(number: u8, layer: u8) -> Option<Fault> {
-    Some(Fault {
-        number,
-        instance: 0,
-        event: 0,
-        layer,
-    })
+// The fault of a chart as a whole.
+pub(crate) fn fault(layer: Layer, rule: Rule) -> Option<Fault> {
+    Some(Fault::of_whole(layer, rule))
 }

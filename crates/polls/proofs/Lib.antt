@@ -1,3 +1,1 @@
-mod Computed
-mod Counted
-mod Summed
+pub mod Counted

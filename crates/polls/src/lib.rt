@@ -2,7 +2,8 @@
 #![tactic(auto)]
 
 mod poll;
+mod schedule;
 #[cfg(test)]
 mod tests;
 
-pub use poll::{LAYER, MOST_KEYPADS, MOST_ROUNDS, Poll, TOO_LARGE};
+pub use poll::{MOST_KEYPADS, MOST_ROUNDS, Poll};

@@ -1,19 +1,16 @@
 -- A recast chart, from what its part answers.
-use Rattle.std.proofs.Common.{◌≡◌, ℕ, ◌<◌, ◌≤◌, Bool, true, false, cond, List, [], map, length, get_or, Some, None, Ok, Option, sym, refl, ap, ◌∙◌, subst, arith}
-use Rattle.std.proofs.lemmas.List.{length-map, get_or-map, get_or_past}
+use Rattle.std.proofs.Common.{◌≡◌, ℕ, ◌<◌, ◌≤◌, Bool, true, false, cond, List, [], map, length, get_or, Some, None, Ok, MatchOption, Option, unwrap_or, sym, refl, ap, ◌∙◌, subst, arith}
 use Rattle.charts.specs.declared.parts.Event.{Event}
 use Rattle.charts.specs.declared.faults.Fault.{Fault}
 use Rattle.charts.specs.declared.parts.Summary.{Summary}
-use Rattle.charts.specs.Events.{no_event}
 use Rattle.charts.specs.Judged.{Judged, summed, unspoiled}
-use Rattle.charts.specs.Lists.{column, count_of, event_of}
+use Rattle.charts.specs.Lists.{column}
 use Rattle.charts.proofs.Summaries.{summed_ok}
 use Rattle.joining.specs.Joined.{join_fault}
 use Rattle.joining.specs.Moves.{moved}
 use Rattle.joining.specs.Recast.{to, from, recast, turns_below, recast_trouble, recast_lists, Permutes, Undoes, Exactly}
-use Rattle.joining.proofs.Moving.{at_instance}
 use Rattle.joining.proofs.Undone.{undone_trouble, undone_lists}
-use Rattle.joining.proofs.Recasts.{permutes_yes, permutes_from, recast_length, recast_column, recast_size, recast_span}
+use Rattle.joining.proofs.Recasts.{permutes_yes, permutes_from, from_within, recast_length, recast_column, recast_size, recast_span}
 
 -- the chart is whole, and t permutes its instances
 pub record Turned (f : Option Fault) (L : List (List Event)) (t : List ℕ) : Type 0 where
@@ -49,41 +46,6 @@ recast_sized None L t s j n e y =
     ap (λ (b : Bool). summed (cond b None (Some (join_fault 32 5))) (unspoiled (cond b None (Some (join_fault 32 5))) (recast L t))) (sym y')
 recast_sized (Some f) L t s j n e y = absurd (let z : ◌≡◌ {A = ℕ} 0 1 = cc in omega arith)
 
--- the instances, where the chart is whole and t permutes them
-module _ (f : Option Fault) (L : List (List Event)) (t : List ℕ) (n : length t ≡ 32) (x : Turned f L t) (i : ℕ) where
-  turned_column : i < length L → map (moved (to t) 0) (column L (from t i)) ≡ column (recast_lists f L t) i
-  turned_column l =
-      let few = x.few in
-      sym (ap (λ (J : List (List Event)). column J i) x.lists ∙ recast_column L t x.permuted (omega arith) i l)
-
-  pub turned_count : i < length L → count_of L (from t i) ≡ count_of (recast_lists f L t) i
-  turned_count l = sym (length-map (column L (from t i)) (moved (to t) 0)) ∙ ap length (turned_column l)
-
-  pub turned_past : length L ≤ i → 0 ≡ count_of (recast_lists f L t) i
-  turned_past l =
-      let few = x.few in
-      let w = recast_length L t x.permuted (omega arith) in
-      sym (ap (λ (J : List (List Event)). count_of J i) x.lists ∙ ap length (get_or_past (recast L t) i [] (omega arith)))
-
-  pub turned_event : (k : ℕ) → i < length L → k < count_of L (from t i) → moved (to t) 0 (event_of L (from t i) k) ≡ event_of (recast_lists f L t) i k
-  turned_event k l b =
-      sym (get_or-map (moved (to t) 0) (column L (from t i)) k no_event no_event b) ∙ ap (λ (es : List Event). get_or es k no_event) (turned_column l)
-
--- a recast chart with an event has no fault, and the instance is one of the chart's
-pub turned_inside : (f : Option Fault) (L : List (List Event)) (t : List ℕ) (i k : ℕ) → Judged f L → length t ≡ 32 → k < count_of (recast_lists f L t) i → Turned f L t × (i < length L)
-turned_inside f L t i k j n h =
-    let e = go (recast_trouble f L t) h in
-    let x = turned f L t j n e in
-    let few = x.few in
-    let w = recast_length L t x.permuted (omega arith) in
-    let c = ap (λ (J : List (List Event)). count_of J i) x.lists in
-    let within = at_instance (recast L t) i k (event_of (recast L t) i k) (record { within = omega arith; is = refl }) in
-    (x, omega arith)
-  where
-    go : (u : Option Fault) → k < count_of (unspoiled u (recast L t)) i → u ≡ None
-    go None l = refl
-    go (Some y) l = absurd (omega arith)
-
 -- what an answered summary of a recast chart tells
 pub record Sized (f : Option Fault) (L : List (List Event)) (t : List ℕ) (s : Summary) : Type 0 where
   pub turns : Turned f L t
@@ -95,6 +57,27 @@ sized_from f L t s j n e =
     let x = turned f L t j n a.whole in
     let few = x.few in
     record { turns = x; width = a.width ∙ ap length x.lists ∙ recast_length L t x.permuted (omega arith) }
+
+-- an answered summary is that of at most 32 instances
+pub sized_few : (f : Option Fault) (L : List (List Event)) (t : List ℕ) (s : Summary) → Judged f L → length t ≡ 32 → Ok s ≡ summed (recast_trouble f L t) (recast_lists f L t) → s.width ≤ 32
+sized_few f L t s j n e = let a = sized_from f L t s j n e in let w = a.width in let few = a.turns.few in omega arith
+
+-- the instance that becomes i, below the width
+pub turned_source : (f : Option Fault) (L : List (List Event)) (t : List ℕ) (s : Summary) (i : ℕ) (o : Option ℕ) → Judged f L → length t ≡ 32 → Ok s ≡ summed (recast_trouble f L t) (recast_lists f L t) → i < s.width → unwrap_or o 32 ≡ from t i →
+    MatchOption o (column (recast_lists f L t) i ≡ []) (λ x. column (recast_lists f L t) i ≡ map (moved (to t) 0) (column L x))
+turned_source f L t s i o j n e l b = go o b
+  where
+    a : Sized f L t s
+    a = sized_from f L t s j n e
+
+    within : i < length L
+    within = let w = a.width in omega arith
+
+    go : (q : Option ℕ) → unwrap_or q 32 ≡ from t i → MatchOption q (column (recast_lists f L t) i ≡ []) (λ x. column (recast_lists f L t) i ≡ map (moved (to t) 0) (column L x))
+    go None p = let few = a.turns.few in let low = from_within t (length L) a.turns.permuted (omega arith) i within in absurd (omega arith)
+    go (Some x) p =
+        let few = a.turns.few in
+        ap (λ (J : List (List Event)). column J i) a.turns.lists ∙ recast_column L t a.turns.permuted (omega arith) i within ∙ ap (λ (y : ℕ). map (moved (to t) 0) (column L y)) (sym p)
 
 -- what the names back are for
 pub undoes : (f : Option Fault) (L : List (List Event)) (t b : List ℕ) → Judged f L → length t ≡ 32 → length b ≡ 32 → ((j : ℕ) → j < 32 → get_or b j 0 ≡ from t j) → recast_trouble f L t ≡ None → Undoes L t b

@@ -1,16 +1,12 @@
-ghost use Rattle.std.specs.Prelude.{◌≡◌, None, MatchOption, ◌≢◌};
-ghost use Rattle.joining.specs.Recast.{recast_trouble, recast_lists, Undoes, Exactly};
+ghost use Rattle.std.specs.Prelude.{◌≡◌, [], map, None, MatchOption, ◌≢◌};
+ghost use Rattle.charts.specs.Lists.{column};
+ghost use Rattle.joining.specs.Moves.{moved};
+ghost use Rattle.joining.specs.Recast.{to, recast_trouble, recast_lists, Undoes, Exactly};
 ghost use Rattle.joining.proofs.Recasts.{recast_judged};
 
 use crate::renaming::renamed;
 use crate::turn::Turn;
-use charts::{Chart, Event, Fault, NO_EVENT, Summary};
-
-// The number of the fault of a table that is no permutation.
-const NO_PERMUTATION: u8 = 32;
-
-// The layer of a fault that this join finds.
-const LAYER: u8 = 5;
+use charts::{Chart, Event, Fault, Layer, NO_EVENT, Rule, Summary};
 
 // A chart whose instance i becomes the one that a table names.
 #[derive(Drop)]
@@ -29,12 +25,15 @@ impl<A: Chart> Recast<A> {
         }
     }
 
-    // The names back.
-    fn back(&self) -> [u8; 32]
-        ensures undoes { recast_trouble (A.Chart.trouble self.now.chart) (A.Chart.lists self.now.chart) self.now.turn.to ≡ None → Undoes (A.Chart.lists self.now.chart) self.now.turn.to result }
-        ensures exact { Exactly (A.Chart.trouble self.now.chart) (A.Chart.lists self.now.chart) self.now.turn.to }
+    // The instance that becomes i, where there is an instance i.
+    fn source(&self, i: usize) -> Option<usize>
+        ensures { let L = A.Chart.lists self.now.chart in let t = self.now.turn.to in let es = column (recast_lists (A.Chart.trouble self.now.chart) L t) i in
+            MatchOption result (es ≡ []) (λ j. es ≡ map (moved (to t) 0) (column L j)) }
     {
-        self.turn.back
+        match self.summary() {
+            Ok(size) if i < size.width => self.turn.back[i].map(usize::from),
+            _ => None,
+        }
     }
 
     // The names that recast the chart back, where the chart is not spoiled and the names permute its instances.
@@ -42,10 +41,9 @@ impl<A: Chart> Recast<A> {
         ensures undoes { MatchOption result (recast_trouble (A.Chart.trouble self.now.chart) (A.Chart.lists self.now.chart) self.now.turn.to ≢ None) (λ b. Undoes (A.Chart.lists self.now.chart) self.now.turn.to b) }
         ensures exact { Exactly (A.Chart.trouble self.now.chart) (A.Chart.lists self.now.chart) self.now.turn.to }
     {
-        let back = self.back();
-        match self.summary() {
-            Ok(_) => Some(back),
-            Err(_) => None,
+        match self.fault() {
+            None => Some(self.turn.inverse()),
+            Some(_) => None,
         }
     }
 }
@@ -62,29 +60,20 @@ impl<A: Chart> Chart for Recast<A> {
         if self.turn.permutes(size.width) {
             return Ok(size);
         }
-        Err(Fault {
-            number: NO_PERMUTATION,
-            instance: 0,
-            event: 0,
-            layer: LAYER,
-        })
+        Err(Fault::of_whole(Layer::Recast, Rule::Permutation))
     }
 
     fn count(&self, i: usize) -> usize {
-        match self.summary() {
-            Ok(size) if i < size.width => self.chart.count(usize::from(self.turn.back[i])),
-            Ok(_) => 0,
-            Err(_) => 0,
-        }
+        self.source(i).map_or(0, |j| self.chart.count(j))
     }
 
     fn event(&self, i: usize, k: usize) -> Event {
-        if k >= self.count(i) {
+        let Some(j) = self.source(i) else {
+            return NO_EVENT;
+        };
+        if k >= self.chart.count(j) {
             return NO_EVENT;
         }
-        renamed(
-            self.chart.event(usize::from(self.turn.back[i]), k),
-            &self.turn.to,
-        )
+        renamed(self.chart.event(j, k), &self.turn.to)
     }
 }

@@ -1,37 +1,31 @@
-ghost use Rattle.std.specs.Prelude.{◌≡◌, ℕ, ◌<◌, ◌≤◌, length, slice_index};
+ghost use Rattle.std.specs.Prelude.{◌≡◌, ℕ, ◌<◌, ◌≤◌, length, None, unwrap_or, slice_index_or};
 ghost use Rattle.joining.specs.Recast.{from, turns, turns_below};
 
-// The names that a table gives to instances, and back: the first instance of each name, 32 where there is none.
+use std::array;
+
+// The names that a table gives to instances, and back: the first instance of each name, if there is one.
 #[derive(Clone, Copy)]
 pub(crate) struct Turn {
     pub(crate) to: [u8; 32],
-    pub(crate) back: [u8; 32],
+    pub(crate) back: [Option<u8>; 32],
     ghost names: { length to ≡ 32 },
     ghost places: { length back ≡ 32 },
-    ghost inverse: { (j : ℕ) → j < 32 → slice_index back j ≡ from to j },
+    ghost inverse: { (j : ℕ) → j < 32 → unwrap_or (slice_index_or back j None) 32 ≡ from to j },
 }
 
-// The first instance that has the name j, 32 where there is none.
-fn first_named(to: &[u8], j: u8) -> u8
+// The first instance that has the name j.
+fn first_named(to: &[u8], j: u8) -> Option<u8>
     requires { length to.now ≡ 32 }
-    ensures { result ≡ from to.now j }
+    ensures { unwrap_or result 32 ≡ from to.now j }
 {
-    for (i, name) in to.iter().enumerate() {
-        if *name == j {
-            return i as u8;
-        }
-    }
-    32
+    to.iter().position(|name| *name == j).map(|i| i as u8)
 }
 
 impl Turn {
     pub(crate) fn new(to: [u8; 32]) -> Turn
         ensures { result.to ≡ to }
     {
-        let mut back = [32; 32];
-        for j in 0..32usize {
-            back[j] = first_named(&to, j as u8);
-        }
+        let back = array::from_fn(|j| first_named(&to, j as u8));
         Turn { to, back }
     }
 
@@ -42,7 +36,9 @@ impl Turn {
         ensures { result ≡ turns self.now.to width i }
     {
         let name = usize::from(self.to[i]);
-        name < width && usize::from(self.back[name]) == i && usize::from(self.back[i]) < width
+        name < width
+            && self.back[name] == Some(i as u8)
+            && self.back[i].is_some_and(|first| usize::from(first) < width)
     }
 
     // Whether the table is a permutation of the instances below the width.
@@ -50,11 +46,14 @@ impl Turn {
         requires { width ≤ 32 }
         ensures { result ≡ turns_below self.now.to width width }
     {
-        for i in 0..width {
-            if !self.turns(width, i) {
-                return false;
-            }
-        }
-        true
+        (0..width).all(|i| self.turns(width, i))
+    }
+
+    // The names back. A table has a byte for each, so 32 stands for a name that no instance has.
+    pub(crate) fn inverse(&self) -> [u8; 32]
+        ensures places { length result ≡ 32 }
+        ensures inverse { (j : ℕ) → j < 32 → slice_index_or result j 0 ≡ from self.now.to j }
+    {
+        self.back.map(|first| first.unwrap_or(32))
     }
 }

@@ -1,12 +1,8 @@
-use Rattle.std.proofs.Common.{ℕ, ◌-◌, ap, ◌∙◌, ap₂, arith}
+use Rattle.std.proofs.Common.{◌≡◌, ◌-◌, false, is_some, sym, ap, ◌∙◌, arith}
 use Rattle.charts.specs.declared.parts.Event.{Event}
-use Rattle.charts.specs.Lists.{event_of}
 use Rattle.charts.proofs.Bounds.{number_small, span_small}
-use Rattle.charts.proofs.Summaries.{summed_ok}
-use Rattle.joining.specs.After.{after}
-use Rattle.joining.specs.Joined.{join_trouble, join_lists}
-use Rattle.joining.specs.Moves.{moved}
-use Rattle.joins.proofs.Following.{after_begins, after_goes_on}
+use Rattle.joining.specs.After.{after_trouble}
+use Rattle.joins.proofs.Following.{after_begins}
 use Rattle.joins.proofs.after.AfterChart.event.Goals as goal
 
 pub returns-then-k-before : goal.returns-then-k-before
@@ -16,8 +12,8 @@ returns-then-k-before g c =
     let h = g.B.Chart.trouble t.second in
     let L = g.A.Chart.lists t.first in
     let K = g.B.Chart.lists t.second in
-    let s = summed_ok (join_trouble 3 f h (after L K)) (join_lists 3 f h (after L K)) c.in-Ok.field-0 c.in-Ok.ensures in
-    c.event.ensures ∙ after_begins f h L K s.whole c.args.i c.args.k (omega arith)
+    let whole : is_some (after_trouble f h L K) ≡ false = cc in
+    c.event.ensures ∙ sym (after_begins f h L K c.args.i whole c.args.k (omega arith))
 
 pub raised-requires : goal.raised-requires
 raised-requires g c =
@@ -26,16 +22,3 @@ raised-requires g c =
     let s = span_small (g.A.Chart.lists t.first) (g.A.Chart.trouble t.first) (g.A.Chart.sound t.first) in
     let e = ap (λ (x : Event). x.number) c.event-2.ensures in
     omega arith
-
-pub returns : goal.returns
-returns g c =
-    let t = c.args.self.now in
-    let f = g.A.Chart.trouble t.first in
-    let h = g.B.Chart.trouble t.second in
-    let L = g.A.Chart.lists t.first in
-    let K = g.B.Chart.lists t.second in
-    let s = summed_ok (join_trouble 3 f h (after L K)) (join_lists 3 f h (after L K)) c.in-Ok.field-0 c.in-Ok.ensures in
-    let n = c.count-before.ensures in
-    c.raised.ensures ∙
-    ap₂ (λ (x : ℕ) (y : Event). moved (λ i. i) x y) c.span.ensures (c.event-2.ensures ∙ ap (λ (x : ℕ). event_of K c.args.i (c.args.k - x)) n) ∙
-    after_goes_on f h L K s.whole c.args.i c.args.k (omega arith)

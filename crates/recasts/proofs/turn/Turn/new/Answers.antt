@@ -1,14 +1,8 @@
-use Rattle.std.proofs.Common.{◌≢◌, ◌∙◌, arith, below_more}
-use Rattle.std.proofs.lemmas.List.{get_or-set_same, get_or-set_other, length-set}
+use Rattle.std.proofs.Common.{◌≡◌, ℕ, None, Option, unwrap_or, arith, rules}
+use Rattle.joining.specs.Recast.{from}
+use Rattle.recasts.proofs.Turning.{from_fn_each}
 use Rattle.recasts.proofs.turn.Turn.new.Goals as goal
 
-pub loop-j-preserved : goal.loop-j-preserved
-loop-j-preserved c =
-    let back = c.loop-j.back in
-    let j = c.loop-j.j in
-    let n = c.first_named.result in (
-      below_more _ _
-          (λ k h. let other : k ≢ j = omega arith in get_or-set_other back j k n 0 other ∙ c.loop-j.invariant.0 k h)
-          (get_or-set_same back j n 0 (omega arith) ∙ c.first_named.ensures),
-      length-set back j n ∙ c.loop-j.invariant.1,
-    )
+pub invariant_of-result-clause-inverse : goal.invariant_of-result-clause-inverse
+invariant_of-result-clause-inverse c =
+    λ j h. from_fn_each _ _ c.from_fn-back.result (λ (k : ℕ) (o : Option ℕ). unwrap_or o 32 ≡ from c.args.to k) (λ i y q call. search rules) 0 32 c.from_fn-back.ensures.items.each j None (omega arith) (omega arith)

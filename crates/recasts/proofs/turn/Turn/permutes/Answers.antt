@@ -1,10 +1,15 @@
-use Rattle.std.proofs.Common.{sym}
-use Rattle.recasts.proofs.Turning.{turns_more, turns_never}
+use Rattle.std.proofs.Common.{◌≡◌, ◌∙◌, refl, arith, rules, tests}
+use Rattle.std.specs.List.{range_with_len, list_all}
+use Rattle.std.proofs.lemmas.Iterator.{YieldsList-from_range}
+use Rattle.std.proofs.lemmas.Iterator.Search.{all_from_yields_List}
+use Rattle.joining.specs.Recast.{turns}
+use Rattle.recasts.proofs.Turning.{turns_all}
 use Rattle.recasts.proofs.turn.Turn.permutes.Goals as goal
 
-pub returns-then-not-turns : goal.returns-then-not-turns
-returns-then-not-turns c =
-    sym (turns_never c.args.self.now.to c.args.width c.loop-i.i c.args.width c.loop-i-test.true (sym c.if-not-turns.ensures))
-
-pub loop-i-preserved : goal.loop-i-preserved
-loop-i-preserved c = turns_more c.args.self.now.to c.args.width c.loop-i.i c.loop-i.invariant (sym c.if-not-turns.ensures)
+pub returns : goal.returns
+returns c =
+    let t = c.args.self.now.to in
+    let w = c.args.width in
+    let all : c.all.result ≡ list_all (turns t w) (range_with_len 0 w) =
+    all_from_yields_List (turns t w) _ _ c.all.result c.all.ensures.ran (YieldsList-from_range 0 w w refl (omega arith)) (λ x b q k. search (rules, tests)) in
+    all ∙ turns_all t w w
