@@ -1,87 +1,86 @@
--- The slots of a grid, filled one by one.
-use Rattle.std.proofs.Common.{◌≡◌, ℕ, ◌+◌, ◌<◌, ◌≤◌, true, ◌&&◌, eqb, List, length, get_or, set, sym, ap, ◌∙◌, subst, inl, inr, arith}
-use Rattle.std.proofs.lemmas.List.{get_or-map, get_or-set_same, get_or-set_other, map-set, set-get_or}
-use Rattle.std.proofs.lemmas.Bool.{eq-eqb, ne_eqb, and_from, and_right, cond-true, cond-false}
+-- The slots of a grid, filled instance by instance.
+use Rattle.std.proofs.Common.{◌≡◌, ℕ, ◌+◌, ◌-◌, ◌<◌, ◌≤◌, List, ◌++◌, map, length, get_or, take, drop, sym, refl, ap, ◌∙◌, subst, inl, inr, arith}
+use Rattle.std.proofs.lemmas.List.{drop-map, get_or-append_right, get_or-take, length-take-le, map-append, take-map}
+use Rattle.std.proofs.lemmas.Slice.{take-put_mid, take-put_mid_below}
+use Rattle.std.proofs.lemmas.Bool.{cases_lt}
+use borrow.Rule.Slice.PartMut.{post_of, put_mid, put_same}
 use Rattle.charts.specs.declared.parts.Event.{Event}
-use Rattle.charts.specs.Events.{no_event, input}
-use Rattle.charts.specs.Lists.{At, count_of, event_of}
-use Rattle.charts.specs.Sound.{Sound}
-use Rattle.orders.specs.Passing.{passing}
-use Rattle.orders.specs.Deciding.{sent_at}
+use Rattle.charts.specs.Lists.{column, count_of}
+use Rattle.checks.specs.Cut.{cut}
 use Rattle.copies.specs.declared.grid.Grid.{Grid}
 use Rattle.copies.specs.declared.parts.Slot.{Slot}
 use Rattle.copies.specs.Filled.{Filled}
-use Rattle.copies.specs.Grids.{no_slot, no_column, place_of}
+use Rattle.copies.specs.Grids.{no_slot, place_of, Mated, Ranked}
 use Rattle.copies.specs.Kept.{grid_lists}
-use Rattle.copies.specs.Lists.{events_in}
-use Rattle.copies.specs.Noted.{Earlier, Noted}
-use Rattle.copies.specs.Slots.{between, mate_of, ahead_of, slot_of}
-use Rattle.copies.proofs.Grids.{grid_before, grid_within, grid_event}
-use Rattle.copies.proofs.Notes.{earlier_or_same, earlier_column}
-use Rattle.copies.proofs.Partners.{other_index, mate_is}
+use Rattle.copies.specs.Lists.{counts, events_in, kept_lists}
+use Rattle.copies.specs.Slots.{slot_of}
+use Rattle.copies.proofs.Events.{same_events}
+use Rattle.copies.proofs.Grids.{grid_before, grid_column, grid_instance, grid_room}
 
--- what is fixed of an event, by its parts
-slot_at : (L : List (List Event)) (i k : ℕ) (e : Event) (mate ahead : ℕ) → At L i k e → mate ≡ mate_of L i e → ahead ≡ ahead_of L i k e →
-    record { event = e; mate = mate; ahead = ahead } ≡ slot_of L i k
-slot_at L i k e mate ahead a m h =
-    let p : e ≡ event_of L i k = sym a.is in
-    let q = m ∙ ap (mate_of L i) p in
-    let r = h ∙ ap (ahead_of L i k) p in
-    λ t. record { event = p t; mate = q t; ahead = r t }
+map-put_mid : {X Y : Type 0} (f : X → Y) (a k : ℕ) (xs ys : List X) → map f (put_mid a k xs ys) ≡ put_mid a k (map f xs) (map f ys)
+map-put_mid f a k xs ys =
+    let front = sym (take-map f a xs) in
+    let back = sym (drop-map f k (drop a xs)) ∙ ap (drop k) (sym (drop-map f a xs)) in
+    map-append f (take a xs) (ys ++ post_of a k xs) ∙ ap (λ (zs : List _). map f (take a xs) ++ zs) (map-append f ys (post_of a k xs)) ∙ (λ t. front t ++ (map f ys ++ back t))
 
-module _ (L : List (List Event)) (sound : Sound L) (outputs inputs : List ℕ) (noted : Noted L (length L) 0 outputs inputs)
-    (i k : ℕ) (e : Event) (mate : ℕ) (at : At L i k e) (yes : true ≡ between L e) (is : mate ≡ other_index L sound outputs inputs noted e) where
-  -- of an input between instances
-  pub slot_input : (ahead : ℕ) → e.kind ≡ input → ahead ≡ passing L e.peer i (sent_at L i e) k → record { event = e; mate = mate; ahead = ahead } ≡ slot_of L i k
-  slot_input ahead of n =
-      slot_at L i k e mate ahead at (is ∙ mate_is L sound outputs inputs noted i k e at (sym yes))
-      (n ∙ sym (cond-true (between L e && eqb e.kind input) (passing L e.peer i (sent_at L i e) k) 0 (and_from (between L e) (eqb e.kind input) (sym yes) (eq-eqb e.kind input of))))
+-- an element before the part, and one of it
+get_or-put_mid_below : {X : Type 0} (a k : ℕ) (xs ys : List X) (n : ℕ) (d : X) → n < a → a ≤ length xs → get_or (put_mid a k xs ys) n d ≡ get_or xs n d
+get_or-put_mid_below a k xs ys n d b l =
+    sym (get_or-take a (put_mid a k xs ys) n d b) ∙ ap (λ (zs : List _). get_or zs n d) (take-put_mid_below a k xs ys a (omega arith) l) ∙ get_or-take a xs n d b
 
-  -- of an output between instances
-  pub slot_output : (e.kind ≡ input → ⊥) → record { event = e; mate = mate; ahead = 0 } ≡ slot_of L i k
-  slot_output other =
-      slot_at L i k e mate 0 at (is ∙ mate_is L sound outputs inputs noted i k e at (sym yes))
-      (sym (cond-false (between L e && eqb e.kind input) (passing L e.peer i (sent_at L i e) k) 0 (and_right (between L e) (eqb e.kind input) (ne_eqb e.kind input other))))
+get_or-put_mid : {X : Type 0} (a k : ℕ) (xs ys : List X) (n : ℕ) (d : X) → n < length ys → a ≤ length xs → get_or (put_mid a k xs ys) (a + n) d ≡ get_or ys n d
+get_or-put_mid a k xs ys n d b l =
+    let t = length-take-le a xs l in
+    let m : a + n - a ≡ n = omega arith in
+    sym (get_or-take (a + length ys) (put_mid a k xs ys) (a + n) d (omega arith)) ∙ ap (λ (zs : List _). get_or zs (a + n) d) (take-put_mid a k xs ys (a + length ys) refl l)
+    ∙ get_or-append_right (take a xs) ys a (a + n) d t (omega arith) ∙ ap (λ (z : ℕ). get_or ys z d) m
 
-module _ (g : Grid) where
-  -- an earlier event has an earlier place
-  place_before : (i k j l : ℕ) → k < count_of (grid_lists g) i → l < count_of (grid_lists g) j → Earlier i k j l → place_of g.columns j l < place_of g.columns i k
-  place_before i k j l hi hj (inl b) = grid_before g i j k l hi hj b
-  place_before i k j l hi hj (inr b) =
-      let less = b.1 in let s = ap (λ (x : ℕ). (get_or g.columns x no_column).start) b.0 in omega arith
+-- one instance more
+module _ (g : Grid) (i a : ℕ) (w : i < g.width) (start : a ≡ place_of g.columns i 0) (ss new : List Slot) (long : length ss ≡ 4096) (so : Filled g i ss)
+    (whole : length new ≡ count_of (grid_lists g) i) (own : (k : ℕ) → k < length new → get_or new k no_slot ≡ slot_of (grid_lists g) i k) where
+  abbrev next : List Slot
+  next = put_mid a (count_of (grid_lists g) i) ss new
 
-  -- one slot more
-  pub filled_more : (i k : ℕ) (ss : List Slot) (s : Slot) (at : ℕ) → length ss ≡ 4096 → k < count_of (grid_lists g) i → at ≡ place_of g.columns i k → s ≡ slot_of (grid_lists g) i k →
-      Filled g i k ss → Filled g i (k + 1) (set ss at s)
-  filled_more i k ss s at len h is own f =
-      record {
-        same =
-            (let long = g.long in
-            let w = inside in
-            let held = sym (get_or-map (λ x. x.event) g.slots at no_slot no_event (omega arith)) in
-            let event = ap (λ (x : Slot). x.event) own ∙ grid_event g i k h ∙ ap (λ (n : ℕ). (get_or g.slots n no_slot).event) (sym is) ∙ held in
-            map-set (λ x. x.event) ss at s ∙ (λ t. set (f.same t) at (event t)) ∙ set-get_or (events_in g.slots) at no_event);
-        filled = λ j l hl before. put j l hl before;
-      }
-    where
-      inside : at < 4096
-      inside = let w = grid_within g i k h in omega arith
+  same_next : events_in next ≡ events_in g.slots
+  same_next =
+      let n = count_of (grid_lists g) i in
+      let has = same_events new (column (grid_lists g) i) whole (λ k h. ap (λ (s : Slot). s.event) (own k (omega arith))) in
+      let part = ap (take n) (drop-map (λ s. s.event) a ss) ∙ take-map (λ s. s.event) n (drop a ss) ∙ grid_column g i a (λ h. start) ss so.same ∙ sym has in
+      map-put_mid (λ s. s.event) a n ss new ∙ ap (put_mid a n (events_in ss)) (sym part) ∙ put_same a n (events_in ss) ∙ so.same
 
-      put : (j l : ℕ) → l < count_of (grid_lists g) j → Earlier i (k + 1) j l → get_or (set ss at s) (place_of g.columns j l) no_slot ≡ slot_of (grid_lists g) j l
-      put j l hl before =
-          elim (earlier_or_same i k j l before) [
-            | inl b ↦
-                get_or-set_other ss at (place_of g.columns j l) s no_slot (λ e. let p = place_before i k j l h hl b in omega arith)
-                ∙ f.filled j l hl b
-            | inr b ↦
-                (λ t. get_or (set ss at s) (place_of g.columns (b.0 t) (b.1 t)) no_slot) ∙ ap (λ (n : ℕ). get_or (set ss at s) n no_slot) (sym is)
-                ∙ get_or-set_same ss at s no_slot (let w = inside in omega arith) ∙ own ∙ sym (λ t. slot_of (grid_lists g) (b.0 t) (b.1 t))
-          ]
+  filled_next : (j l : ℕ) → l < count_of (grid_lists g) j → j < i + 1 → get_or next (place_of g.columns j l) no_slot ≡ slot_of (grid_lists g) j l
+  filled_next j l h b =
+      let n = count_of (grid_lists g) i in
+      let r = grid_room g i w in
+      elim (cases_lt j i) [
+        | inl c ↦
+            let before = grid_before g i j l w h c in
+            get_or-put_mid_below a n ss new (place_of g.columns j l) no_slot (omega arith) (omega arith) ∙ so.filled j l h c
+        | inr c ↦
+            let same : j ≡ i = omega arith in
+            let k = ap (count_of (grid_lists g)) same in
+            let at = ap (λ (x : ℕ). place_of g.columns x 0) same in
+            let p : place_of g.columns j l ≡ a + l = omega arith in
+            ap (λ (x : ℕ). get_or next x no_slot) p ∙ get_or-put_mid a n ss new l no_slot (omega arith) (omega arith) ∙ own l (omega arith)
+            ∙ ap (λ (x : ℕ). slot_of (grid_lists g) x l) (sym same)
+      ]
 
-  -- one instance more
-  pub filled_column : (i k : ℕ) (ss : List Slot) → count_of (grid_lists g) i ≤ k → Filled g i k ss → Filled g (i + 1) 0 ss
-  filled_column i k ss h f =
-      record {
-        same = f.same;
-        filled = λ j l hl before. f.filled j l hl (earlier_column i k j l (count_of (grid_lists g) i) before (λ p. subst (λ (x : ℕ). l < count_of (grid_lists g) x) p hl) h);
-      }
+  pub filled_more : Filled g (i + 1) next
+  filled_more = record { same = same_next; filled = filled_next }
+
+-- when every instance is filled, the slots hold the grid's lists, and what is fixed of each event
+module _ (g : Grid) (ss : List Slot) (so : Filled g g.width ss) where
+  pub filled_lists : kept_lists g.width g.columns ss ≡ grid_lists g
+  filled_lists = ap (cut (take g.width (counts g.columns))) so.same
+
+  filled_slot : (i k : ℕ) → k < count_of (kept_lists g.width g.columns ss) i → get_or ss (place_of g.columns i k) no_slot ≡ slot_of (kept_lists g.width g.columns ss) i k
+  filled_slot i k h =
+      let e = filled_lists in
+      let w = subst (λ (L : List (List Event)). k < count_of L i) e h in
+      so.filled i k w (grid_instance g i k w) ∙ ap (λ (L : List (List Event)). slot_of L i k) (sym e)
+
+  pub filled_mated : Mated g.width g.columns ss
+  filled_mated i k h = ap (λ (s : Slot). s.mate) (filled_slot i k h)
+
+  pub filled_ranked : Ranked g.width g.columns ss
+  filled_ranked i k h = ap (λ (s : Slot). s.ahead) (filled_slot i k h)

@@ -1,12 +1,12 @@
 -- What the columns and the slots of a grid tell of its lists.
-use Rattle.std.proofs.Common.{◌≡◌, ℕ, ◌+◌, ◌<◌, ◌≤◌, true, false, List, [], length, get_or, take, is_some, Some, None, sum, Option, sym, refl, ap, ◌∙◌, subst, inl, inr, arith}
-use Rattle.std.proofs.lemmas.List.{get_or-map, get_or_past, get_or-take, length-map, length-take, length-take-le, take-take}
+use Rattle.std.proofs.Common.{◌≡◌, ℕ, ◌+◌, ◌-◌, ◌<◌, ◌≤◌, true, false, List, [], length, get_or, take, drop, is_some, Some, None, sum, Option, sym, refl, ap, ◌∙◌, subst, inl, inr, arith}
+use Rattle.std.proofs.lemmas.List.{drop-map, ext_get_or, get_or-drop, get_or-map, get_or_past, get_or-take, length-drop, length-map, length-take, length-take-le, take-map, take-take}
 use Rattle.std.proofs.lemmas.List.Sums.{sum_by_more, sum_by-take-le}
 use Rattle.std.proofs.lemmas.Bool.{cases_lt, both_ways, not-true}
 use Rattle.charts.specs.declared.parts.Event.{Event}
 use Rattle.charts.specs.declared.faults.Fault.{Fault}
 use Rattle.charts.specs.Events.{no_event}
-use Rattle.charts.specs.Lists.{size, count_of, event_of}
+use Rattle.charts.specs.Lists.{size, column, count_of, event_of}
 use Rattle.charts.specs.Sound.{Sound}
 use Rattle.checks.specs.Cut.{cut}
 use Rattle.checks.specs.Checked.{checked}
@@ -14,6 +14,8 @@ use Rattle.checks.proofs.Cuts.{cut_length, cut_count, cut_event, cut_size}
 use Rattle.checks.proofs.Exact.{checked_sound}
 use Rattle.checks.proofs.Passed.{Passed, passed_from}
 use Rattle.copies.specs.declared.grid.Grid.{Grid}
+use Rattle.copies.specs.declared.parts.Column.{Column}
+use Rattle.copies.specs.declared.parts.Slot.{Slot}
 use Rattle.copies.specs.Grids.{no_slot, no_column, place_of, faultless}
 use Rattle.copies.specs.Kept.{grid_lists}
 use Rattle.copies.specs.Lists.{counts, events_in}
@@ -85,9 +87,8 @@ module _ (g : Grid) where
   grid_start i h = g.placed i h ∙ ap sum (sym (take-take i g.width (counts g.columns) (omega arith)))
 
   -- an event comes before those of later instances
-  pub grid_before : (i j k l : ℕ) → k < count_of (grid_lists g) i → l < count_of (grid_lists g) j → j < i → place_of g.columns j l < place_of g.columns i k
-  grid_before i j k l hi hj b =
-      let wi = grid_instance i k hi in
+  pub grid_before : (i j l : ℕ) → i < g.width → l < count_of (grid_lists g) j → j < i → place_of g.columns j l < place_of g.columns i 0
+  grid_before i j l wi hj b =
       let wj = grid_instance j l hj in
       let si = grid_start i wi in
       let sj = grid_start j wj in
@@ -96,10 +97,9 @@ module _ (g : Grid) where
       let s = sum_before lengths i j b (omega arith) in
       omega arith
 
-  -- its place is in the table
-  pub grid_within : (i k : ℕ) → k < count_of (grid_lists g) i → place_of g.columns i k < 4096
-  grid_within i k h =
-      let w = grid_instance i k h in
+  -- the places of an instance are in the table
+  pub grid_room : (i : ℕ) → i < g.width → (get_or g.columns i no_column).start + count_of (grid_lists g) i ≤ 4096
+  grid_room i w =
       let s = grid_start i w in
       let n = cut_count lengths (events_in g.slots) i fits in
       let long = lengths_long in
@@ -110,7 +110,33 @@ module _ (g : Grid) where
       let e = length-map g.slots (λ s. s.event) in
       omega arith
 
-  -- and the slot there has it
+  pub first_columns : length (take g.width g.columns) ≡ g.width
+  first_columns = let w = g.wide in let n = g.narrow in length-take-le g.width g.columns (omega arith)
+
+  -- what the column of an instance tells
+  pub record Here (i : ℕ) (c : Column) : Type 0 where
+    pub start : c.start ≡ place_of g.columns i 0
+    pub count : c.count ≡ count_of (grid_lists g) i
+    pub room : c.start + c.count ≤ 4096
+
+  pub grid_here : (i : ℕ) (c : Column) → i < length (take g.width g.columns) → c ≡ get_or (take g.width g.columns) i no_column → Here i c
+  grid_here i c h is =
+      let n = first_columns in
+      let w : i < g.width = omega arith in
+      let own : c ≡ get_or g.columns i no_column = is ∙ get_or-take g.width g.columns i no_column w in
+      let s = ap (λ (x : Column). x.start) own in
+      let m = ap (λ (x : Column). x.count) own in
+      let k = grid_count i w in
+      let r = grid_room i w in
+      record { start = omega arith; count = omega arith; room = omega arith }
+
+  pub grid_nowhere : (i : ℕ) → length (take g.width g.columns) ≤ i → count_of (grid_lists g) i ≡ 0
+  grid_nowhere i h = let n = first_columns in grid_past i (omega arith)
+
+  pub grid_within : (i k : ℕ) → k < count_of (grid_lists g) i → place_of g.columns i k < 4096
+  grid_within i k h = let r = grid_room i (grid_instance i k h) in omega arith
+
+  -- the slot at its place has the event
   pub grid_event : (i k : ℕ) → k < count_of (grid_lists g) i → event_of (grid_lists g) i k ≡ (get_or g.slots (place_of g.columns i k) no_slot).event
   grid_event i k h =
       let w = grid_instance i k h in
@@ -118,3 +144,36 @@ module _ (g : Grid) where
       let z = g.long in
       cut_event lengths (events_in g.slots) i k h ∙ ap (λ (n : ℕ). get_or (events_in g.slots) (n + k) no_event) (sym (grid_start i w))
       ∙ get_or-map (λ s. s.event) g.slots (place_of g.columns i k) no_slot no_event (omega arith)
+
+  module _ (i a : ℕ) (starts : i < g.width → a ≡ place_of g.columns i 0) where
+    abbrev part : List Event
+    part = take (count_of (grid_lists g) i) (drop a (events_in g.slots))
+
+    part_long : length part ≡ count_of (grid_lists g) i
+    part_long =
+        let n = count_of (grid_lists g) i in
+        let t = length-take n (drop a (events_in g.slots)) in
+        let d = length-drop a (events_in g.slots) in
+        let m = length-map g.slots (λ s. s.event) in
+        let z = g.long in
+        elim (cases_lt 0 n) [
+          | inl b ↦ let last : n - 1 < n = omega arith in let w = grid_within i (n - 1) last in let p = starts (grid_instance i (n - 1) last) in omega arith
+          | inr b ↦ omega arith
+        ]
+
+    part_event : (k : ℕ) → k < count_of (grid_lists g) i → get_or part k no_event ≡ event_of (grid_lists g) i k
+    part_event k h =
+        let z = g.long in
+        let w = grid_within i k h in
+        let s = starts (grid_instance i k h) in
+        let p : a + k ≡ place_of g.columns i k = omega arith in
+        get_or-take (count_of (grid_lists g) i) (drop a (events_in g.slots)) k no_event h ∙ get_or-drop a (events_in g.slots) k no_event
+        ∙ ap (λ (m : ℕ). get_or (events_in g.slots) m no_event) p
+        ∙ get_or-map (λ s. s.event) g.slots (place_of g.columns i k) no_slot no_event (omega arith) ∙ sym (grid_event i k h)
+
+    -- the slots from the first place of an instance on have its events
+    pub grid_column : (ss : List Slot) → events_in ss ≡ events_in g.slots → events_in (take (count_of (grid_lists g) i) (drop a ss)) ≡ column (grid_lists g) i
+    grid_column ss same =
+        sym (take-map (λ s. s.event) (count_of (grid_lists g) i) (drop a ss))
+        ∙ ap (take (count_of (grid_lists g) i)) (sym (drop-map (λ s. s.event) a ss) ∙ ap (drop a) same)
+        ∙ ext_get_or no_event part (column (grid_lists g) i) part_long (λ k h. part_event k (let l = part_long in omega arith))

@@ -1,8 +1,9 @@
 pub mod Fronts
+pub mod Events
 pub mod Grids
+pub mod Begun
 pub mod Notes
 pub mod Partners
-pub mod Fillings
-pub mod Begun
 pub mod Links
+pub mod Fillings
 pub mod Kept

@@ -1,29 +1,72 @@
--- Filled slots hold the grid's lists, and what is fixed of each event.
-use Rattle.std.proofs.Common.{◌≡◌, ℕ, ◌<◌, List, get_or, take, sym, ap, ◌∙◌, subst, inl}
+-- What is fixed of an event whose message goes from an instance to an instance, by its end of the message.
+use Rattle.std.proofs.Common.{◌≡◌, ℕ, ◌<◌, true, false, ◌&&◌, ltb, List, length, Some, Option, sym, refl, ap, ◌∙◌, arith}
+use Rattle.std.proofs.lemmas.Bool.{lt-ltb, and_from, and_right, cond-true, cond-false}
 use Rattle.charts.specs.declared.parts.Event.{Event}
-use Rattle.charts.specs.Lists.{count_of}
-use Rattle.checks.specs.Cut.{cut}
-use Rattle.copies.specs.declared.grid.Grid.{Grid}
-use Rattle.copies.specs.declared.parts.Slot.{Slot}
-use Rattle.copies.specs.Filled.{Filled}
-use Rattle.copies.specs.Grids.{no_slot, place_of, Mated, Ranked}
-use Rattle.copies.specs.Kept.{grid_lists}
-use Rattle.copies.specs.Lists.{counts, kept_lists}
-use Rattle.copies.specs.Slots.{slot_of}
-use Rattle.copies.proofs.Grids.{grid_instance}
+use Rattle.charts.specs.Events.{event, output, input}
+use Rattle.charts.specs.Lists.{At, column, count_of}
+use Rattle.messages.specs.declared.ends.End.{End}
+use Rattle.messages.specs.declared.ends.End.TheVariants.{Output, Input}
+use Rattle.messages.specs.Ends.{kind_of, other_end}
+use Rattle.messages.specs.Places.{place_of}
+use Rattle.orders.specs.Passing.{passing}
+use Rattle.orders.specs.Deciding.{input_place, sent_at}
+use Rattle.copies.specs.declared.linker.Linker.{Linker}
+use Rattle.copies.specs.Linked.{linked_lists}
+use Rattle.copies.specs.Slots.{mate_of, ahead_of, slot_of}
+use Rattle.copies.proofs.Grids.{grid_sound}
+use Rattle.copies.proofs.Notes.{at_kind}
+use Rattle.copies.proofs.Partners.{input_noted, output_noted}
 
-module _ (g : Grid) (ss : List Slot) (f : Filled g g.width 0 ss) where
-  pub linked_lists : kept_lists g.width g.columns ss ≡ grid_lists g
-  linked_lists = ap (cut (take g.width (counts g.columns))) f.same
+-- the slot of an event, by its parts
+pub slot_is : (L : List (List Event)) (i k : ℕ) (e : Event) (mate ahead : ℕ) → At L i k e → mate ≡ mate_of L i e → ahead ≡ ahead_of L i k e →
+    record { event = e; mate = mate; ahead = ahead } ≡ slot_of L i k
+slot_is L i k e mate ahead a p q =
+    let is = sym a.is in
+    let r = p ∙ ap (mate_of L i) is in
+    let s = q ∙ ap (ahead_of L i k) is in
+    λ t. record { event = is t; mate = r t; ahead = s t }
 
-  linked_slot : (i k : ℕ) → k < count_of (kept_lists g.width g.columns ss) i → get_or ss (place_of g.columns i k) no_slot ≡ slot_of (kept_lists g.width g.columns ss) i k
-  linked_slot i k h =
-      let e = linked_lists in
-      let w = subst (λ (L : List (List Event)). k < count_of L i) e h in
-      f.filled i k w (inl (grid_instance g i k w)) ∙ ap (λ (L : List (List Event)). slot_of L i k) (sym e)
+module _ (L : List (List Event)) (i k : ℕ) (e : Event) (w : e.peer < length L) where
+  of_kind : (kind : ℕ) → e.kind ≡ kind → e ≡ event kind e.peer e.number
+  of_kind kind o t = record { kind = o t; peer = e.peer; number = e.number }
 
-  pub linked_mated : Mated g.width g.columns ss
-  linked_mated i k h = ap (λ (s : Slot). s.mate) (linked_slot i k h)
+  yes : ltb e.peer (length L) ≡ true
+  yes = lt-ltb e.peer (length L) w
 
-  pub linked_ranked : Ranked g.width g.columns ss
-  linked_ranked i k h = ap (λ (s : Slot). s.ahead) (linked_slot i k h)
+  mate_output : e.kind ≡ output → mate_of L i e ≡ input_place i e.number (column L e.peer)
+  mate_output o = ap (mate_of L i) (of_kind output o) ∙ cond-true (ltb e.peer (length L)) (input_place i e.number (column L e.peer)) 0 yes
+
+  mate_input : e.kind ≡ input → mate_of L i e ≡ sent_at L i e
+  mate_input o = ap (mate_of L i) (of_kind input o) ∙ cond-true (ltb e.peer (length L)) (sent_at L i e) 0 yes
+
+  -- nothing is ahead of an output
+  pub ahead_output : e.kind ≡ output → ahead_of L i k e ≡ 0
+  ahead_output o =
+      ap (ahead_of L i k) (of_kind output o)
+      ∙ cond-false (ltb e.peer (length L) && false) (passing L e.peer i (sent_at L i e) k) 0 (and_right (ltb e.peer (length L)) false refl)
+
+  -- the messages ahead of the one that is input are those on the way before it
+  pub ahead_input : e.kind ≡ input → ahead_of L i k e ≡ passing L e.peer i (mate_of L i e) k
+  ahead_input o =
+      ap (ahead_of L i k) (of_kind input o)
+      ∙ cond-true (ltb e.peer (length L) && true) (passing L e.peer i (sent_at L i e) k) 0 (and_from (ltb e.peer (length L)) true yes refl)
+      ∙ ap (λ (n : ℕ). passing L e.peer i n k) (sym (mate_input o))
+
+module _ (x : Linker) (i k : ℕ) (e : Event) (a : At (linked_lists x) i k e) (w : e.peer < length (linked_lists x)) where
+  mate_noted : (end : End) → e.kind ≡ kind_of end → place_of x.places (other_end end) e.number ≡ Some (mate_of (linked_lists x) i e)
+  mate_noted Output o =
+      input_noted (linked_lists x) (grid_sound x.grid.now) x.places x.noted i k e.peer e.number (at_kind (linked_lists x) i k output e.number e a o refl) w
+      ∙ ap Some (sym (mate_output (linked_lists x) i k e w o))
+  mate_noted Input o =
+      (output_noted (linked_lists x) (grid_sound x.grid.now) x.places x.noted i k e a o w).place ∙ ap Some (sym (mate_input (linked_lists x) i k e w o))
+
+  -- a place that was looked up for the other event of the message is its place
+  pub mate_found : (end other : End) (found : Option ℕ) → e.kind ≡ kind_of end → other ≡ other_end end → found ≡ place_of x.places other e.number → found ≡ Some (mate_of (linked_lists x) i e)
+  mate_found end other found o p f = f ∙ ap (λ (y : End). place_of x.places y e.number) p ∙ mate_noted end o
+
+  -- an output stands on the sender
+  pub mate_within : e.kind ≡ input → mate_of (linked_lists x) i e < count_of (linked_lists x) e.peer
+  mate_within o =
+      let s = (output_noted (linked_lists x) (grid_sound x.grid.now) x.places x.noted i k e a o w).within in
+      let p = mate_input (linked_lists x) i k e w o in
+      omega arith

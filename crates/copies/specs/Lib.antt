@@ -3,4 +3,5 @@ pub mod Lists
 pub mod Grids
 pub mod Kept
 pub mod Noted
+pub mod Linked
 pub mod Filled

@@ -1,18 +1,27 @@
--- Which events have been gone through, and where their messages were noted.
-use Rattle.std.specs.Prelude.{◌≡◌, ℕ, ◌<◌, ◌⊎◌, List, slice_index}
+-- Where the events of messages were noted.
+use Rattle.std.specs.Prelude.{◌≡◌, ℕ, ◌<◌, Bool, false, ◌&&◌, List, length, Some, None, Option, nat_le}
 use Rattle.charts.specs.declared.parts.Event.{Event}
-use Rattle.charts.specs.Events.{output, input}
 use Rattle.charts.specs.Lists.{At}
+use Rattle.messages.specs.declared.ends.End.{End}
+use Rattle.messages.specs.declared.ends.End.TheVariants.{Input}
+use Rattle.messages.specs.declared.places.MessagePlaces.{MessagePlaces}
+use Rattle.messages.specs.Ends.{kind_of}
+use Rattle.messages.specs.Places.{place_of}
+use Rattle.orders.specs.Passing.{output_to}
 
--- event l of instance j comes before event k of instance i
-abbrev pub Earlier : ℕ → ℕ → ℕ → ℕ → Type 0
-Earlier i k j l = (j < i) ⊎ ((j ≡ i) × (l < k))
+-- each event of a message on the first i instances has its place noted, its index on its instance
+abbrev pub NotedBefore : List (List Event) → ℕ → MessagePlaces → Type 0
+NotedBefore L i m = (j l : ℕ) (e : Event) (end : End) → At L j l e → j < i → e.kind ≡ kind_of end → place_of m end e.number ≡ Some l
 
--- the row has, by its message's number, the index of each event of this kind before event k of instance i
-abbrev pub Row : List (List Event) → ℕ → ℕ → ℕ → List ℕ → Type 0
-Row L kind i k row = (j l : ℕ) (e : Event) → At L j l e → Earlier i k j l → e.kind ≡ kind → slice_index row e.number ≡ l
+-- the same of each instance
+abbrev pub Noted : List (List Event) → MessagePlaces → Type 0
+Noted L m = NotedBefore L (length L) m
 
--- a row for the outputs, and one for the inputs
-pub record Noted (L : List (List Event)) (i k : ℕ) (outputs inputs : List ℕ) : Type 0 where
-  pub outputs_noted : Row L output i k outputs
-  pub inputs_noted : Row L input i k inputs
+-- the place is k or after it
+abbrev pub reaches : ℕ → Option ℕ → Bool
+reaches k None = false
+reaches k (Some p) = nat_le k p
+
+-- the event is an output to instance i whose input was noted at k or after it
+abbrev pub is_ahead : MessagePlaces → ℕ → ℕ → Event → Bool
+is_ahead m i k e = output_to i e && reaches k (place_of m Input e.number)

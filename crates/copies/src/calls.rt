@@ -27,6 +27,7 @@ impl Indexed {
     }
 
     // The number of instances.
+    #[tactic(auto, using(crate::proofs::Grids::grid_width))]
     pub fn width(&self) -> usize
         ensures { result ≡ length (kept self.now) }
     {
@@ -37,10 +38,11 @@ impl Indexed {
     pub fn count(&self, i: usize) -> usize
         ensures { result ≡ count_of (kept self.now) i }
     {
-        self.grid.count(i)
+        self.grid.column(i).len()
     }
 
     // The number of events on all instances.
+    #[tactic(auto, using(crate::proofs::Grids::grid_size))]
     pub fn events(&self) -> usize
         ensures { result ≡ size (kept self.now) }
     {
@@ -51,11 +53,6 @@ impl Indexed {
     pub fn slot(&self, i: usize, k: usize) -> Option<Slot>
         ensures { result ≡ slot_at (kept self.now) i k }
     {
-        if k < self.count(i) {
-            let at = self.grid.place(i, k);
-            Some(self.grid.slots[at])
-        } else {
-            None
-        }
+        self.grid.column(i).get(k).copied()
     }
 }

@@ -1,4 +1,4 @@
-ghost use Rattle.std.specs.Prelude.{◌≡◌, ◌+◌, ◌≤◌, ◌++◌, take};
+ghost use Rattle.std.specs.Prelude.{◌≡◌, length};
 ghost use Rattle.charts.specs.Lists.{column, count_of};
 ghost use Rattle.copies.specs.Kept.{grid_lists};
 ghost use Rattle.copies.specs.Lists.{events_in};
@@ -7,17 +7,13 @@ use crate::grid::Grid;
 use crate::parts::{Column, NO_SLOT, Slot};
 use charts::Chart;
 
-// Copies the events of instance i, from the place start on.
-fn copy_column<C: Chart>(slots: &mut [Slot; 4096], chart: &C, i: usize, start: usize)
-    requires { start + count_of (C.lists chart.now) i ≤ 4096 }
-    ensures { take (start + count_of (C.lists chart.now) i) (events_in slots.new) ≡ take start (events_in slots.old) ++ column (C.lists chart.now) i }
+// Copies the events of instance i, one into each slot.
+fn copy_column<C: Chart>(slots: &mut [Slot], chart: &C, i: usize)
+    requires { length slots.old ≡ count_of (C.lists chart.now) i }
+    ensures { events_in slots.new ≡ column (C.lists chart.now) i }
 {
-    for k in 0..chart.count(i) {
-        slots[start + k] = Slot {
-            event: chart.event(i, k),
-            mate: 0,
-            ahead: 0,
-        };
+    for (k, slot) in slots.iter_mut().enumerate() {
+        *slot = Slot::alone(chart.event(i, k));
     }
 }
 
@@ -36,7 +32,7 @@ impl Grid {
                 start: events as u16,
                 count: count as u16,
             };
-            copy_column(&mut slots, chart, i, events);
+            copy_column(&mut slots[events..events + count], chart, i);
             events += count;
         }
         Grid {

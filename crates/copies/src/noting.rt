@@ -1,27 +1,30 @@
-ghost use Rattle.std.specs.Prelude.{◌+◌, length};
+ghost use Rattle.std.specs.Prelude.{◌+◌};
 ghost use Rattle.copies.specs.Kept.{grid_lists};
-ghost use Rattle.copies.specs.Noted.{Noted};
+ghost use Rattle.copies.specs.Noted.{Noted, NotedBefore};
 
 use crate::grid::Grid;
-use crate::message_indexes::MessageIndexes;
+use messages::{End, MessagePlaces};
 
 // Notes the messages of instance i.
-fn note_column(messages: &mut MessageIndexes, grid: &Grid, i: usize)
-    requires { Noted (grid_lists grid.now) i 0 messages.old.outputs messages.old.inputs }
-    ensures { Noted (grid_lists grid.now) (i + 1) 0 messages.new.outputs messages.new.inputs }
+fn note_column(places: &mut MessagePlaces, grid: &Grid, i: usize)
+    requires { NotedBefore (grid_lists grid.now) i places.old }
+    ensures { NotedBefore (grid_lists grid.now) (i + 1) places.new }
 {
-    for k in 0..grid.count(i) {
-        messages.note(grid.event(i, k), k as u16);
+    for (k, slot) in grid.column(i).iter().enumerate() {
+        if let Some(end) = End::of(slot.event) {
+            places.note(end, slot.event.number, k as u16);
+        }
     }
 }
 
-// The indexes of all messages.
-pub(crate) fn note_messages(grid: &Grid) -> MessageIndexes
-    ensures { Noted (grid_lists grid.now) (length (grid_lists grid.now)) 0 result.outputs result.inputs }
+// Where the events of all messages stand on their instances.
+#[tactic(auto, using(crate::proofs::Grids::grid_width))]
+pub(crate) fn note_messages(grid: &Grid) -> MessagePlaces
+    ensures { Noted (grid_lists grid.now) result }
 {
-    let mut messages = MessageIndexes::new();
+    let mut places = MessagePlaces::new();
     for i in 0..grid.width {
-        note_column(&mut messages, grid, i);
+        note_column(&mut places, grid, i);
     }
-    messages
+    places
 }

@@ -1,3 +1,5 @@
+ghost use Rattle.std.specs.Prelude.{◌≡◌};
+
 use charts::{Event, NO_EVENT};
 
 // An event of the copy, with what its chart fixes of it beforehand.
@@ -8,6 +10,19 @@ pub struct Slot {
     pub mate: u16,
     // how many messages from the same sender are ahead of the one that is input, when this event is the next
     pub ahead: u16,
+}
+
+impl Slot {
+    // An event of no message between instances.
+    pub(crate) fn alone(event: Event) -> Slot
+        ensures { result ≡ record { event = event; mate = 0; ahead = 0 } }
+    {
+        Slot {
+            event,
+            mate: 0,
+            ahead: 0,
+        }
+    }
 }
 
 // Where the events of an instance stand among all: from the start on, so many.

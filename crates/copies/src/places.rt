@@ -1,38 +1,37 @@
-ghost use Rattle.std.specs.Prelude.{◌≡◌, ◌<◌};
-ghost use Rattle.charts.specs.Lists.{At, count_of};
-ghost use Rattle.copies.specs.Grids.{place_of};
+ghost use Rattle.std.specs.Prelude.{◌≡◌, ℕ, ◌+◌, ◌<◌, ◌≤◌, length, slice_index_or};
+ghost use Rattle.charts.specs.Lists.{column, count_of};
+ghost use Rattle.copies.specs.Grids.{no_slot, place_of};
 ghost use Rattle.copies.specs.Kept.{grid_lists};
+ghost use Rattle.copies.specs.Lists.{events_in};
 
 use crate::grid::Grid;
-use charts::Event;
+use crate::parts::Slot;
+use std::ops::Range;
 
 impl Grid {
-    // The number of events on instance i, 0 where there is no such instance.
-    pub(crate) fn count(&self, i: usize) -> usize
-        ensures { result ≡ count_of (grid_lists self.now) i }
+    // Where the events of instance i stand among the slots, none where there is no such instance.
+    pub(crate) fn places(&self, i: usize) -> Range<usize>
+        ensures start { i < self.now.width → result.start ≡ place_of self.now.columns i 0 }
+        ensures count { result.end ≡ result.start + count_of (grid_lists self.now) i }
+        ensures within { result.end ≤ 4096 }
     {
-        if i < self.width {
-            usize::from(self.columns[i].count)
-        } else {
-            0
+        match self.columns[..self.width].get(i) {
+            Some(column) => {
+                let start = usize::from(column.start);
+                start..start + usize::from(column.count)
+            }
+            None => 0..0,
         }
     }
 
-    // Where event k of instance i stands among the slots.
-    pub(crate) fn place(&self, i: usize, k: usize) -> usize
-        requires { k < count_of (grid_lists self.now) i }
-        ensures place { result ≡ place_of self.now.columns i k }
-        ensures within { result < 4096 }
+    // The slots of instance i, none where there is no such instance.
+    pub(crate) fn column(&self, i: usize) -> &[Slot]
+        ensures events { events_in result.now ≡ column (grid_lists self.now) i }
+        ensures count { length result.now ≡ count_of (grid_lists self.now) i }
+        ensures few { length result.now ≤ 4096 }
+        ensures places { (k : ℕ) → k < length result.now → slice_index_or result.now k no_slot ≡ slice_index_or self.now.slots (place_of self.now.columns i k) no_slot }
     {
-        usize::from(self.columns[i].start) + k
-    }
-
-    // Event k of instance i.
-    pub(crate) fn event(&self, i: usize, k: usize) -> Event
-        requires { k < count_of (grid_lists self.now) i }
-        ensures { At (grid_lists self.now) i k result }
-    {
-        let at = self.place(i, k);
-        self.slots[at].event
+        let places = self.places(i);
+        &self.slots[places]
     }
 }

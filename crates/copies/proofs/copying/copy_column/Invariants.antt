@@ -1,9 +1,7 @@
-use Rattle.std.proofs.Common.{◌≡◌, ◌+◌, ◌++◌, length, take}
-use Rattle.charts.specs.Lists.{column}
-use Rattle.copies.specs.Lists.{events_in}
+use Rattle.std.proofs.Common.{◌≡◌, ℕ, ◌<◌, get_or}
+use Rattle.charts.specs.Lists.{event_of}
+use Rattle.copies.specs.Grids.{no_slot}
 use Rattle.copies.proofs.copying.copy_column.Given as goal
 
 abbrev pub invariant-loop-k : goal.invariant-loop-k
-invariant-loop-k g l =
-    (take (l.start + l.k) (events_in l.slots) ≡ take l.start (events_in l.initial.slots) ++ take l.k (column (g.C.Chart.lists l.chart) l.i))
-    × (length l.slots ≡ 4096)
+invariant-loop-k g l = (j : ℕ) → j < l.k → (get_or l.slots j no_slot).event ≡ event_of (g.C.Chart.lists l.chart) l.i j
