@@ -43,22 +43,13 @@ impl Board {
     pub fn lowest_unfinished(&self) -> Option<usize>
         ensures { result ≡ some_below (length (kept self.now.copy)) (lowest_of (unfinished (kept self.now.copy) (place_of self.now.rows.table)) (length (kept self.now.copy))) }
     {
-        for j in 0..self.copy.width() {
-            if self.position(j) < self.copy.count(j) {
-                return Some(j);
-            }
-        }
-        None
+        (0..self.copy.width()).find(|j| self.position(*j) < self.copy.count(*j))
     }
 
     // How many steps were made.
     pub fn made(&self) -> usize
         ensures { result ≡ steps_made (kept self.now.copy) (place_of self.now.rows.table) }
     {
-        let mut made = 0;
-        for j in 0..self.copy.width() {
-            made += self.position(j);
-        }
-        made
+        (0..self.copy.width()).map(|j| self.position(j)).sum()
     }
 }

@@ -27,12 +27,7 @@ impl Board {
     pub fn lowest<M: Medium>(&self, medium: &M, held: Option<Held>) -> Option<usize>
         ensures { result ≡ some_below (length (kept self.now.copy)) (lowest_of (held_now (M.carries medium.now) (kept self.now.copy) held (place_of self.now.rows.table)) (length (kept self.now.copy))) }
     {
-        for j in 0..self.copy.width() {
-            if self.may_but(medium, held, j) {
-                return Some(j);
-            }
-        }
-        None
+        (0..self.copy.width()).find(|j| self.may_but(medium, held, *j))
     }
 
     // Makes as many lowest-numbered steps as the buffer is long, or until none is left, and writes their instances.

@@ -1,11 +1,11 @@
-ghost use Rattle.std.specs.Prelude.{◌≡◌, length, if◌then◌else◌};
+ghost use Rattle.std.specs.Prelude.{◌≡◌, if◌then◌else◌};
 ghost use Rattle.copies.specs.Kept.{kept};
 ghost use Rattle.orders.specs.Deciding.{unfinished, may_now_at, waits_now};
 ghost use Rattle.rules.specs.Places.{place_of, sent_of};
 ghost use Rattle.rules.specs.Rules.{mate_ran, slot_may, slot_waits};
 
 use crate::board::Board;
-use charts::{ACTION, ENVIRONMENT, INPUT, OUTPUT};
+use charts::{Kind, Peer};
 use copies::Slot;
 use media::Medium;
 
@@ -19,18 +19,22 @@ impl Board {
 
     // Whether the slot's event, the next of instance i, may run.
     fn allows<M: Medium>(&self, medium: &M, i: usize, slot: Slot) -> bool
-        ensures { result ≡ slot_may (M.carries medium.now) (length (kept self.now.copy)) (place_of self.now.rows.table) (sent_of self.now.rows.table) i slot }
+        ensures { result ≡ slot_may (M.carries medium.now) (place_of self.now.rows.table) (sent_of self.now.rows.table) i slot }
     {
-        let peer = usize::from(slot.event.peer);
-        let width = self.copy.width();
-        match slot.event.kind {
-            ACTION => true,
-            OUTPUT | INPUT if slot.event.peer == ENVIRONMENT => true,
-            OUTPUT if peer < width => medium.sends(i, peer, self.rows.on_the_way(i, peer)),
-            INPUT if peer < width => {
-                self.mate_ran(slot) && medium.takes(peer, i, usize::from(slot.ahead))
+        match (
+            Kind::try_from(slot.event.kind),
+            Peer::from(slot.event.peer),
+        ) {
+            (Ok(Kind::Action), _) => true,
+            (Ok(Kind::Output | Kind::Input), Peer::Environment) => true,
+            (Ok(Kind::Output), Peer::Instance(peer)) => {
+                let peer = usize::from(peer);
+                medium.sends(i, peer, self.rows.on_the_way(i, peer))
             }
-            _ => false,
+            (Ok(Kind::Input), Peer::Instance(peer)) => {
+                self.mate_ran(slot) && medium.takes(usize::from(peer), i, usize::from(slot.ahead))
+            }
+            (Err(_), _) => false,
         }
     }
 
@@ -49,8 +53,8 @@ impl Board {
         ensures { result ≡ slot_waits (place_of self.now.rows.table) i slot }
     {
         let peer = usize::from(slot.event.peer);
-        match slot.event.kind {
-            OUTPUT => peer,
+        match Kind::try_from(slot.event.kind) {
+            Ok(Kind::Output) => peer,
             _ if self.mate_ran(slot) => i,
             _ => peer,
         }

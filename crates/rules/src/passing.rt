@@ -3,7 +3,7 @@ ghost use Rattle.rules.specs.Places.{place_of, sent_of};
 ghost use Rattle.rules.specs.Rules.{sends_now, receives_now};
 
 use crate::rows::Rows;
-use charts::{INPUT, OUTPUT};
+use charts::Kind;
 use copies::Slot;
 
 impl Rows {
@@ -14,9 +14,9 @@ impl Rows {
         ensures counts { (x y : ℕ) → sent_of self.new.table x y + (if receives_now width ran slot && (slot.event.peer == x && i == y) then 1 else 0) ≡ sent_of self.old.table x y + (if sends_now width ran slot && (i == x && slot.event.peer == y) then 1 else 0) }
     {
         let peer = usize::from(slot.event.peer);
-        match slot.event.kind {
-            OUTPUT if peer < width && !ran => self.send(i, peer),
-            INPUT if peer < width && ran => self.receive(peer, i),
+        match Kind::try_from(slot.event.kind) {
+            Ok(Kind::Output) if peer < width && !ran => self.send(i, peer),
+            Ok(Kind::Input) if peer < width && ran => self.receive(peer, i),
             _ => {}
         }
     }

@@ -20,22 +20,17 @@ impl Rows {
     pub(crate) fn position(&self, i: usize) -> usize
         ensures { result ≡ place_of self.now.table i }
     {
-        if i < 32 {
-            usize::from(self.table[i].position)
-        } else {
-            0
-        }
+        self.table.get(i).map_or(0, |row| usize::from(row.position))
     }
 
     // How many messages are on the way from i to j.
     pub(crate) fn on_the_way(&self, i: usize, j: usize) -> usize
         ensures { result ≡ sent_of self.now.table i j }
     {
-        if i < 32 && j < 32 {
-            usize::from(self.table[i].sent[j])
-        } else {
-            0
-        }
+        self.table
+            .get(i)
+            .and_then(|row| row.sent.get(j))
+            .map_or(0, |count| usize::from(*count))
     }
 
     // One message more is on the way from i to j.
