@@ -36,12 +36,12 @@ impl Board {
         ensures wrote { Wrote (driven (held_now (M.carries medium.now) (kept self.old.copy) held) (length (kept self.old.copy)) (length out.old) (place_of self.old.rows.table)) self.old.rows.table self.new.rows.table out.old out.new }
         ensures made { result ≡ length (driven (held_now (M.carries medium.now) (kept self.old.copy) held) (length (kept self.old.copy)) (length out.old) (place_of self.old.rows.table)) }
     {
-        for made in 0..out.len() {
+        for (made, cell) in out.iter_mut().enumerate() {
             let Some(i) = self.lowest(medium, held) else {
                 return made;
             };
             self.advance(i);
-            out[made] = i as u8;
+            *cell = i as u8;
         }
         out.len()
     }

@@ -12,10 +12,8 @@ mod passing;
 mod row;
 mod rows;
 mod stepping;
-mod steps;
 
 pub use board::Board;
 pub use held::Held;
 pub use row::Row;
 pub use rows::Rows;
-pub use steps::Steps;

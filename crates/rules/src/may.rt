@@ -21,10 +21,7 @@ impl Board {
     fn allows<M: Medium>(&self, medium: &M, i: usize, slot: Slot) -> bool
         ensures { result ≡ slot_may (M.carries medium.now) (place_of self.now.rows.table) (sent_of self.now.rows.table) i slot }
     {
-        match (
-            Kind::try_from(slot.event.kind),
-            Peer::from(slot.event.peer),
-        ) {
+        match (Kind::try_from(slot.event.kind), Peer::from(slot.event.peer)) {
             (Ok(Kind::Action), _) => true,
             (Ok(Kind::Output | Kind::Input), Peer::Environment) => true,
             (Ok(Kind::Output), Peer::Instance(peer)) => {

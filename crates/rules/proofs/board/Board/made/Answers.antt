@@ -18,11 +18,11 @@ sum-requires-clause-fits c =
     let long = length-range_with_len 0 c.width.result in
     fits_from_length _ _ 32 _ (at_most_from_yields_List (YieldsList-from_range 0 c.width.result c.width.result c.map.ensures.source (omega arith)) (omega arith)) c.map.ensures.closure (omega arith)
     (λ x r q k.
-        let is : r ≡ place_of b.rows.table x = search (rules, tests) in
-        let few = (kept_sound b.copy).few_events in
-        let within = b.within x in
-        let some = count_size (kept b.copy) x in
-        (search (rules, tests), omega arith))
+    let is : r ≡ place_of b.rows.table x = search (rules, tests) in
+    let few = (kept_sound b.copy).few_events in
+    let within = b.within x in
+    let some = count_size (kept b.copy) x in
+    (search (rules, tests), omega arith))
 
 pub returns : goal.returns
 returns c =
