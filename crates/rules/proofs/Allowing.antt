@@ -14,14 +14,6 @@ use Rattle.rules.specs.declared.row.Row.{Row}
 use Rattle.rules.specs.Places.{no_row, place_of, sent_of, Even, Tallied}
 use Rattle.rules.specs.Rules.{slot_may, slot_waits}
 
--- nothing is counted outside the rows
-pub sent_outside : (rows : List Row) → length rows ≡ 32 → Even rows → (i j : ℕ) → (32 ≤ i) ⊎ (32 ≤ j) → sent_of rows i j ≡ 0
-sent_outside rows sized even i j out =
-    elim (cases_lt i 32) [
-      | inr far ↦ ap (λ (r : Row). get_or r.sent j 0) (get_or_past rows i no_row (omega arith))
-      | inl near ↦ let n = even i near in let o = out in get_or_past (get_or rows i no_row).sent j 0 (omega arith)
-    ]
-
 module _ (M : Carry) (L : List (List Event)) (sound : Sound L) (rows : List Row) (tallied : Tallied L rows) (i : ℕ) where
   -- the slot of an event of i at its position
   abbrev slot_for : Event → Slot

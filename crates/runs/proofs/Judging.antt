@@ -155,7 +155,3 @@ ring_fits L p out room a few =
     let q = and_parts (leb 32 (length out)) (leb (size L) (steps_made L p + length out)) room in
     let b = leb-true 32 (length out) q.0 in
     omega arith
-
--- a ring has at most 32 members
-pub members_few : (start end : ℕ) (path : List ℕ) (a : ℕ) → end ≤ 32 → a ≡ length (drop start (take end path)) → a ≤ 32
-members_few start end path a few is = let l = length-drop start (take end path) in let m = length-take end path in omega arith
