@@ -1,6 +1,5 @@
 ghost use Rattle.std.specs.Prelude.{◌≡◌, ◌≤◌, [], length};
-ghost use Rattle.copies.specs.Kept.{kept};
-ghost use Rattle.rules.specs.Places.{place_of};
+ghost use Rattle.rules.specs.Boards.{lists_of, positions};
 ghost use Rattle.rings.specs.Members.{members_of};
 ghost use Rattle.rings.specs.Walks.{ring_of};
 
@@ -22,7 +21,7 @@ impl Ring {
 
     // The ring that the waits reach from the lowest unfinished instance; none where every instance has finished.
     pub fn of(board: &Board) -> Ring
-        ensures { members_of result ≡ ring_of (kept board.now.copy) (place_of board.now.rows.table) }
+        ensures { members_of result ≡ ring_of (lists_of board.now) (positions board.now) }
     {
         let first = board.lowest_unfinished().unwrap_or(board.width());
         walk(board, first)

@@ -1,6 +1,5 @@
 ghost use Rattle.std.specs.Prelude.{◌≡◌, ◌<◌, [], ◌∷◌, ◌++◌, length, MatchOption};
-ghost use Rattle.copies.specs.Kept.{kept};
-ghost use Rattle.rules.specs.Places.{place_of};
+ghost use Rattle.rules.specs.Boards.{lists_of, positions};
 ghost use Rattle.rings.specs.Members.{members_of, FirstAt, Nowhere};
 ghost use Rattle.rings.specs.Walks.{waits_on, walk_from};
 
@@ -19,7 +18,7 @@ fn find(met: &[u8], x: u8) -> Option<usize>
 fn meet(board: &Board, path: &mut ArrayVec<u8, 32>, x: usize) -> usize
     requires { (x < 32) × (length path.old.items < 32) }
     ensures met { path.new.items ≡ path.old.items ++ (x ∷ []) }
-    ensures next { result ≡ waits_on (kept board.now.copy) (place_of board.now.rows.table) x }
+    ensures next { result ≡ waits_on (lists_of board.now) (positions board.now) x }
 {
     path.push(x as u8);
     board.waits_for(x)
@@ -27,7 +26,7 @@ fn meet(board: &Board, path: &mut ArrayVec<u8, 32>, x: usize) -> usize
 
 // Follows the waits from one instance to the next until one is met twice: from its first place on the path is a ring.
 pub(crate) fn walk(board: &Board, from: usize) -> Ring
-    ensures { members_of result ≡ walk_from (kept board.now.copy) (place_of board.now.rows.table) from }
+    ensures { members_of result ≡ walk_from (lists_of board.now) (positions board.now) from }
 {
     let mut path = ArrayVec::new();
     let mut x = from;

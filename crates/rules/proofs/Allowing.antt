@@ -1,5 +1,5 @@
 -- The rule read off a slot is the rule of what may run.
-use Rattle.std.proofs.Common.{◌≡◌, ℕ, ◌<◌, ◌≤◌, false, cond, eqb, ltb, ◌⊎◌, List, [], length, get_or, Some, None, sym, refl, ap, ◌∙◌, subst, inl, inr, arith}
+use Rattle.std.proofs.Common.{◌≡◌, ℕ, ◌<◌, ◌≤◌, false, cond, eqb, ltb, ◌⊎◌, List, [], length, Some, None, sym, refl, ap, ◌∙◌, subst, inl, inr, arith}
 use Rattle.std.proofs.lemmas.List.{get_or_past}
 use Rattle.std.proofs.lemmas.Bool.{cases_eq, cases_lt, eq-eqb, ne_eqb, eqb-false, lt-ltb, le-ltb, ltb-false, and_cases, or_parts, cases_Bool, cond-true, cond-false}
 use Rattle.charts.specs.declared.parts.Event.{Event}
@@ -11,7 +11,7 @@ use Rattle.orders.specs.Deciding.{output_place, input_place, sent_at, may_run_at
 use Rattle.copies.specs.declared.parts.Slot.{Slot}
 use Rattle.copies.specs.Slots.{between, mate_of, ahead_of, slot_of, slot_at}
 use Rattle.rules.specs.declared.row.Row.{Row}
-use Rattle.rules.specs.Places.{no_row, place_of, sent_of, Even, Tallied}
+use Rattle.rules.specs.Places.{place_of, sent_of, Tallied}
 use Rattle.rules.specs.Rules.{slot_may, slot_waits}
 
 module _ (M : Carry) (L : List (List Event)) (sound : Sound L) (rows : List Row) (tallied : Tallied L rows) (i : ℕ) where

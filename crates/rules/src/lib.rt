@@ -11,6 +11,7 @@ mod may;
 mod passing;
 mod row;
 mod rows;
+mod starting;
 mod stepping;
 
 pub use board::Board;

@@ -1,5 +1,5 @@
 -- Latest answers what the history fixes.
-use Rattle.std.proofs.Common.{◌≡◌, ℕ, suc, ◌+◌, ◌<◌, ◌≤◌, List, ◌++◌, length, take, None, Ok, Err, sym, refl, ap, ◌∙◌, subst, arith, length-take, w64, Fits}
+use Rattle.std.proofs.Common.{◌≡◌, ℕ, suc, ◌+◌, ◌<◌, ◌≤◌, List, ◌++◌, length, None, Ok, Err, sym, refl, ap, ◌∙◌, subst, arith, w64, Fits}
 use Rattle.std.proofs.lemmas.Bool.{ltb-true}
 use Rattle.charts.specs.declared.parts.Event.{Event}
 use Rattle.charts.specs.Lists.{count_of, size}
