@@ -16,7 +16,8 @@ fn find(met: &[u8], x: u8) -> Option<usize>
 
 // Meets instance x, and answers what it waits for, itself where it has finished.
 fn meet(board: &Board, path: &mut ArrayVec<u8, 32>, x: usize) -> usize
-    requires { (x < 32) × (length path.old.items < 32) }
+    requires instance { x < 32 }
+    requires room { length path.old.items < 32 }
     ensures met { path.new.items ≡ path.old.items ++ (x ∷ []) }
     ensures next { result ≡ waits_on (lists_of board.now) (positions board.now) x }
 {

@@ -74,18 +74,6 @@ slot_there L i k x e =
           omega arith)
     ]
 
--- and where it has none the instance has finished
-pub slot_none : (L : List (List Event)) (i k : ℕ) → slot_at L i k ≡ None → count_of L i ≤ k
-slot_none L i k e =
-    elim (cases_lt k (count_of L i)) [
-      | inr n ↦ n
-      | inl l ↦
-          absurd (
-          let t = cond-true (ltb k (count_of L i)) (Some (slot_of L i k)) None (lt-ltb k (count_of L i) l) in
-          let z : ◌≡◌ {A = ℕ} 0 1 = cc in
-          omega arith)
-    ]
-
 -- what is waited for, read off a slot
 pub slot_waits_lem : (L : List (List Event)) → Sound L → (p : ℕ → ℕ) (i k : ℕ) → k < count_of L i → slot_waits p i (slot_of L i k) ≡ waits_for_at L p i (event_of L i k)
 slot_waits_lem L sound p i k left =

@@ -9,7 +9,10 @@ use copies::Slot;
 impl Rows {
     // Counts the message that the slot's event, the next of instance i, outputs or inputs; ran says whether its other event has run.
     pub(crate) fn pass(&mut self, i: usize, slot: Slot, width: usize, ran: bool)
-        requires { (i < 32) × ((width ≤ 32) × (((sends_now width ran slot ≡ true → sent_of self.old.table i slot.event.peer + 1 < 2 ^ 16)) × ((receives_now width ran slot ≡ true → 1 ≤ sent_of self.old.table slot.event.peer i)))) }
+        requires instance { i < 32 }
+        requires narrow { width ≤ 32 }
+        requires fits { sends_now width ran slot ≡ true → sent_of self.old.table i slot.event.peer + 1 < 2 ^ 16 }
+        requires sent { receives_now width ran slot ≡ true → 1 ≤ sent_of self.old.table slot.event.peer i }
         ensures places { (x : ℕ) → place_of self.new.table x ≡ place_of self.old.table x }
         ensures counts { (x y : ℕ) → sent_of self.new.table x y + (if receives_now width ran slot && (slot.event.peer == x && i == y) then 1 else 0) ≡ sent_of self.old.table x y + (if sends_now width ran slot && (i == x && slot.event.peer == y) then 1 else 0) }
     {

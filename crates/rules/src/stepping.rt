@@ -33,9 +33,11 @@ impl Rows {
             .map_or(0, |count| usize::from(*count))
     }
 
-    // One message more is on the way from i to j.
+    // One message more is on the way from i to j. Its twin below takes one away: one method of both would take the step as a closure, and say less.
     pub(crate) fn send(&mut self, i: usize, j: usize)
-        requires { (i < 32) × ((j < 32) × (sent_of self.old.table i j + 1 < 2 ^ 16)) }
+        requires sender { i < 32 }
+        requires receiver { j < 32 }
+        requires fits { sent_of self.old.table i j + 1 < 2 ^ 16 }
         ensures places { (x : ℕ) → place_of self.new.table x ≡ place_of self.old.table x }
         ensures counts { (x y : ℕ) → sent_of self.new.table x y ≡ sent_of self.old.table x y + (if nat_eq i x && j == y then 1 else 0) }
     {
@@ -45,7 +47,9 @@ impl Rows {
 
     // One message less is on the way from i to j.
     pub(crate) fn receive(&mut self, i: usize, j: usize)
-        requires { (i < 32) × ((j < 32) × (1 ≤ sent_of self.old.table i j)) }
+        requires sender { i < 32 }
+        requires receiver { j < 32 }
+        requires sent { 1 ≤ sent_of self.old.table i j }
         ensures places { (x : ℕ) → place_of self.new.table x ≡ place_of self.old.table x }
         ensures counts { (x y : ℕ) → sent_of self.new.table x y + (if nat_eq i x && j == y then 1 else 0) ≡ sent_of self.old.table x y }
     {
@@ -55,7 +59,8 @@ impl Rows {
 
     // One event more of instance i has run.
     pub(crate) fn advance(&mut self, i: usize)
-        requires { (i < 32) × (place_of self.old.table i + 1 < 2 ^ 16) }
+        requires instance { i < 32 }
+        requires fits { place_of self.old.table i + 1 < 2 ^ 16 }
         ensures places { (x : ℕ) → place_of self.new.table x ≡ moved (place_of self.old.table) i x }
         ensures counts { (x y : ℕ) → sent_of self.new.table x y ≡ sent_of self.old.table x y }
     {

@@ -30,7 +30,7 @@ meet-x-requires c =
     let new = subst (λ (met : List ℕ). Nowhere met t.x) c.as_slice.ensures.value c.in_default.ensures in
     let less = turns_short _ _ _ t.path.items t.x t.invariant (omega arith) new in
     let few = (kept_sound c.args.board.now.copy).few_instances in
-    (omega arith, omega arith)
+    record { instance = omega arith; room = omega arith }
 
 pub loop-x-smaller : goal.loop-x-smaller
 loop-x-smaller c =
