@@ -42,47 +42,40 @@ none_below width y h e =
           omega arith)
     ]
 
--- after so many turns a walk whose whole answer is known has come to x and met those of a list, all below the width and none twice
-pub record Turns (next : ℕ → ℕ) (width : ℕ) (whole : List ℕ) (turn : ℕ) (met : List ℕ) (x : ℕ) : Type 0 where
+-- a walk whose whole answer is known has come to x and met those of a list, all below the width and none twice
+pub record Turns (next : ℕ → ℕ) (width : ℕ) (whole : List ℕ) (met : List ℕ) (x : ℕ) : Type 0 where
   pub left : ℕ
-  pub turns : turn + left ≡ suc width
+  pub turns : length met + left ≡ suc width
   pub goes_on : whole ≡ walked_within next width left met x
   pub once : (i : ℕ) → pos met i ≤ 1
   pub few : (i : ℕ) → 1 ≤ pos met i → i < width
 
 module _ (next : ℕ → ℕ) (width : ℕ) where
-  pub turns_start : (x : ℕ) → Turns next width (walked_within next width (suc width) [] x) 0 [] x
+  pub turns_start : (x : ℕ) → Turns next width (walked_within next width (suc width) [] x) [] x
   turns_start x =
       record { left = suc width; turns = omega arith; goes_on = refl; once = λ i. omega arith; few = λ i l. absurd (omega arith) }
 
-  module _ (whole : List ℕ) (turn : ℕ) (met : List ℕ) (x : ℕ) (t : Turns next width whole turn met x) where
-    -- no turn is left
-    pub turns_over : suc width ≤ turn → [] ≡ whole
-    turns_over h = sym (t.goes_on ∙ ap (λ (n : ℕ). walked_within next width n met x) none)
-      where
-        none : t.left ≡ 0
-        none = let s = t.turns in omega arith
-
+  module _ (whole : List ℕ) (met : List ℕ) (x : ℕ) (t : Turns next width whole met x) where
     -- a turn is left
-    turn_is : turn < suc width → (n : ℕ) × ((t.left ≡ suc n) × (whole ≡ walked_within next width (suc n) met x))
-    turn_is h = go t.left refl
+    turn_is : (n : ℕ) × ((t.left ≡ suc n) × (whole ≡ walked_within next width (suc n) met x))
+    turn_is = go t.left refl
       where
         go : (m : ℕ) → t.left ≡ m → (n : ℕ) × ((t.left ≡ suc n) × (whole ≡ walked_within next width (suc n) met x))
-        go zero e = absurd (let s = t.turns in omega arith)
+        go zero e = absurd (let s = t.turns in let r = once_short width met t.once t.few in omega arith)
         go (suc n) e = (n, (e, t.goes_on ∙ ap (λ (m : ℕ). walked_within next width m met x) e))
 
     -- the walk comes to one that is not below the width
-    pub turns_outside : turn < suc width → width ≤ x → [] ≡ whole
-    turns_outside h far = let s = turn_is h in sym (s.1.1 ∙ cond-false {A = List ℕ} (ltb x width) _ [] (le-ltb x width far))
+    pub turns_outside : width ≤ x → [] ≡ whole
+    turns_outside far = let s = turn_is in sym (s.1.1 ∙ cond-false {A = List ℕ} (ltb x width) _ [] (le-ltb x width far))
 
     -- it comes to one met before
-    pub turns_twice : turn < suc width → x < width → (k : ℕ) → FirstAt met x k → drop k met ≡ whole
-    turns_twice h near k f =
-        let s = turn_is h in
+    pub turns_twice : x < width → (k : ℕ) → FirstAt met x k → drop k met ≡ whole
+    turns_twice near k f =
+        let s = turn_is in
         sym (s.1.1 ∙ cond-true {A = List ℕ} (ltb x width) _ [] (lt-ltb x width near) ∙ cond-true {A = List ℕ} (among x met) (since x met) _ (first_among met x k f)
         ∙ since_first met x k f)
 
-    module _ (h : turn < suc width) (near : x < width) (new : Nowhere met x) where
+    module _ (near : x < width) (new : Nowhere met x) where
       once_more : (i : ℕ) → pos (met ++ (x ∷ [])) i ≤ 1
       once_more i =
           elim (cases_eq x i) [
@@ -102,12 +95,12 @@ module _ (next : ℕ → ℕ) (width : ℕ) where
       turns_short = let a = once_short width (met ++ (x ∷ [])) once_more few_more in let b = length_push met x in omega arith
 
       -- and it goes on
-      pub turns_on : Turns next width whole (turn + 1) (met ++ (x ∷ [])) (next x)
+      pub turns_on : Turns next width whole (met ++ (x ∷ [])) (next x)
       turns_on =
-          let s = turn_is h in
+          let s = turn_is in
           record {
             left = s.0;
-            turns = let a = s.1.0 in let b = t.turns in omega arith;
+            turns = let a = s.1.0 in let b = t.turns in let c = length_push met x in omega arith;
             goes_on = s.1.1 ∙ cond-true {A = List ℕ} (ltb x width) _ [] (lt-ltb x width near) ∙ cond-false {A = List ℕ} (among x met) (since x met) _ (nowhere_not_among met x new);
             once = once_more;
             few = few_more;

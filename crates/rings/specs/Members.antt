@@ -1,15 +1,10 @@
--- Paths and their parts, as lists.
-use Rattle.std.specs.Prelude.{◌≡◌, ℕ, ◌<◌, List, length, take, drop, ◌≢◌, slice_index, slice_index_or}
-use Rattle.rings.specs.declared.parts.Path.{Path}
+-- Rings and what a walk has met, as lists.
+use Rattle.std.specs.Prelude.{◌≡◌, ℕ, ◌<◌, List, length, drop, ◌≢◌, slice_index, slice_index_or}
 use Rattle.rings.specs.declared.parts.Ring.{Ring}
 
 -- the instances of a ring
 abbrev pub members_of : Ring → List ℕ
-members_of r = drop r.start (take r.end r.path)
-
--- the instances that a path has met
-abbrev pub met_by : Path → List ℕ
-met_by p = take p.len p.cells
+members_of r = drop r.start r.path.items
 
 -- the first x of the list stands at k
 pub record FirstAt (met : List ℕ) (x k : ℕ) : Type 0 where

@@ -2,7 +2,6 @@
 #![tactic(auto)]
 
 mod parts;
-mod path;
 mod ring;
 mod walk;
 

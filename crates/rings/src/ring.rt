@@ -1,11 +1,11 @@
-ghost use Rattle.std.specs.Prelude.{◌≡◌, []};
-ghost use Rattle.copies.specs.Kept.{kept};
-ghost use Rattle.rules.specs.Places.{place_of};
+ghost use Rattle.std.specs.Prelude.{◌≡◌, ◌≤◌, [], length};
+ghost use Rattle.rules.specs.Boards.{lists_of, positions};
 ghost use Rattle.rings.specs.Members.{members_of};
 ghost use Rattle.rings.specs.Walks.{ring_of};
 
 use crate::parts::Ring;
-use crate::walk::{first_unfinished, walk};
+use crate::walk::walk;
+use arrayvec::ArrayVec;
 use rules::Board;
 
 impl Ring {
@@ -14,25 +14,24 @@ impl Ring {
         ensures { members_of result ≡ [] }
     {
         Ring {
-            path: [0; 32],
+            path: ArrayVec::new(),
             start: 0,
-            end: 0,
         }
     }
 
     // The ring that the waits reach from the lowest unfinished instance; none where every instance has finished.
     pub fn of(board: &Board) -> Ring
-        ensures { members_of result ≡ ring_of (kept board.now.copy) (place_of board.now.rows.table) }
+        ensures { members_of result ≡ ring_of (lists_of board.now) (positions board.now) }
     {
-        walk(board, first_unfinished(board))
+        let first = board.lowest_unfinished().unwrap_or(board.width());
+        walk(board, first)
     }
 
     // The instances of the ring, in the order in which the walk met them.
     pub fn members(&self) -> &[u8]
-        ensures { result.now ≡ members_of self.now }
+        ensures value { result.now ≡ members_of self.now }
+        ensures fits { length result.now ≤ 32 }
     {
-        let start = self.start;
-        let end = self.end;
-        &self.path[start..end]
+        &self.path[self.start..]
     }
 }

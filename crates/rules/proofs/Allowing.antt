@@ -1,5 +1,5 @@
 -- The rule read off a slot is the rule of what may run.
-use Rattle.std.proofs.Common.{◌≡◌, ℕ, ◌<◌, ◌≤◌, false, cond, eqb, ltb, ◌⊎◌, List, [], length, get_or, Some, None, sym, refl, ap, ◌∙◌, subst, inl, inr, arith}
+use Rattle.std.proofs.Common.{◌≡◌, ℕ, ◌<◌, ◌≤◌, false, cond, eqb, ltb, ◌⊎◌, List, [], length, Some, None, sym, refl, ap, ◌∙◌, subst, inl, inr, arith}
 use Rattle.std.proofs.lemmas.List.{get_or_past}
 use Rattle.std.proofs.lemmas.Bool.{cases_eq, cases_lt, eq-eqb, ne_eqb, eqb-false, lt-ltb, le-ltb, ltb-false, and_cases, or_parts, cases_Bool, cond-true, cond-false}
 use Rattle.charts.specs.declared.parts.Event.{Event}
@@ -11,16 +11,8 @@ use Rattle.orders.specs.Deciding.{output_place, input_place, sent_at, may_run_at
 use Rattle.copies.specs.declared.parts.Slot.{Slot}
 use Rattle.copies.specs.Slots.{between, mate_of, ahead_of, slot_of, slot_at}
 use Rattle.rules.specs.declared.row.Row.{Row}
-use Rattle.rules.specs.Places.{no_row, place_of, sent_of, Even, Tallied}
+use Rattle.rules.specs.Places.{place_of, sent_of, Tallied}
 use Rattle.rules.specs.Rules.{slot_may, slot_waits}
-
--- nothing is counted outside the rows
-pub sent_outside : (rows : List Row) → length rows ≡ 32 → Even rows → (i j : ℕ) → (32 ≤ i) ⊎ (32 ≤ j) → sent_of rows i j ≡ 0
-sent_outside rows sized even i j out =
-    elim (cases_lt i 32) [
-      | inr far ↦ ap (λ (r : Row). get_or r.sent j 0) (get_or_past rows i no_row (omega arith))
-      | inl near ↦ let n = even i near in let o = out in get_or_past (get_or rows i no_row).sent j 0 (omega arith)
-    ]
 
 module _ (M : Carry) (L : List (List Event)) (sound : Sound L) (rows : List Row) (tallied : Tallied L rows) (i : ℕ) where
   -- the slot of an event of i at its position
@@ -29,7 +21,7 @@ module _ (M : Carry) (L : List (List Event)) (sound : Sound L) (rows : List Row)
 
   -- what the rule says of it, and what it is to say
   abbrev Agrees : Event → Type 0
-  Agrees e = slot_may M (length L) (place_of rows) (sent_of rows) i (slot_for e) ≡ may_run_at M L (place_of rows) i e
+  Agrees e = slot_may M (place_of rows) (sent_of rows) i (slot_for e) ≡ may_run_at M L (place_of rows) i e
 
   at_action : (j m : ℕ) → Agrees (event action j m)
   at_action j m = refl
@@ -39,9 +31,8 @@ module _ (M : Carry) (L : List (List Event)) (sound : Sound L) (rows : List Row)
   at_output j m (inl l) =
       let few = sound.few_instances in
       let n = ne_eqb j environment (omega arith) in
-      let w = lt-ltb j (length L) l in
       let t = tallied i j l in
-      rw (n, w) (ap (M.send i j) t)
+      rw n (ap (M.send i j) t)
 
   at_input : (s m : ℕ) → (s < length L) ⊎ (s ≡ environment) → Agrees (event input s m)
   at_input s m (inr e) = rw (eq-eqb s environment e) refl
@@ -55,7 +46,7 @@ module _ (M : Carry) (L : List (List Event)) (sound : Sound L) (rows : List Row)
   of_kind e k p t = record { kind = p t; peer = e.peer; number = e.number }
 
   pub slot_may_lem : place_of rows i < count_of L i →
-      slot_may M (length L) (place_of rows) (sent_of rows) i (slot_of L i (place_of rows i)) ≡ may_run_at M L (place_of rows) i (event_of L i (place_of rows i))
+      slot_may M (place_of rows) (sent_of rows) i (slot_of L i (place_of rows i)) ≡ may_run_at M L (place_of rows) i (event_of L i (place_of rows i))
   slot_may_lem left =
       let e = event_of L i (place_of rows i) in
       let a : At L i (place_of rows i) e = record { within = left; is = refl } in
@@ -79,18 +70,6 @@ slot_there L i k x e =
       | inr n ↦
           absurd (
           let t = cond-false (ltb k (count_of L i)) (Some (slot_of L i k)) None (le-ltb k (count_of L i) n) in
-          let z : ◌≡◌ {A = ℕ} 0 1 = cc in
-          omega arith)
-    ]
-
--- and where it has none the instance has finished
-pub slot_none : (L : List (List Event)) (i k : ℕ) → slot_at L i k ≡ None → count_of L i ≤ k
-slot_none L i k e =
-    elim (cases_lt k (count_of L i)) [
-      | inr n ↦ n
-      | inl l ↦
-          absurd (
-          let t = cond-true (ltb k (count_of L i)) (Some (slot_of L i k)) None (lt-ltb k (count_of L i) l) in
           let z : ◌≡◌ {A = ℕ} 0 1 = cc in
           omega arith)
     ]

@@ -1,5 +1,6 @@
 -- As many steps were made as the positions come to.
-use Rattle.std.proofs.Common.{◌≡◌, ℕ, zero, suc, ◌+◌, ◌<◌, ◌≤◌, cond, eqb, ltb, List, [], ◌∷◌, length, take, sum_by, refl, ap, ◌∙◌, inl, inr, add-one, arith}
+use Rattle.std.proofs.Common.{◌≡◌, ℕ, zero, suc, ◌+◌, ◌<◌, ◌≤◌, cond, eqb, ltb, List, [], ◌∷◌, length, map, take, sum_by, refl, ap, ◌∙◌, inl, inr, add-one, arith}
+use Rattle.std.specs.List.{fold, range_with_len}
 use Rattle.std.proofs.lemmas.List.{get_or_past, take_all}
 use Rattle.std.proofs.lemmas.List.Sums.{sum_by_more}
 use Rattle.std.proofs.lemmas.Bool.{cases_eq, cases_lt, cases_order, eq-eqb, ne_eqb, lt-ltb, le-ltb, cond-true, cond-false}
@@ -11,6 +12,19 @@ use Rattle.rules.specs.Made.{sum_below, steps_made}
 -- one instance more
 pub sum_more : (p : ℕ → ℕ) (n : ℕ) → sum_below p (n + 1) ≡ sum_below p n + p n
 sum_more p n = rw add-one refl
+
+-- the positions of a range of instances, added up
+total_from : (p : ℕ → ℕ) (t a n : ℕ) → fold (λ s x. s + x) t (map p (range_with_len a n)) + sum_below p a ≡ t + sum_below p (a + n)
+total_from p t a zero = let i : a + 0 ≡ a = omega arith in let e = ap (sum_below p) i in omega arith
+total_from p t a (suc n) =
+    let r = total_from p (t + p a) (a + 1) n in
+    let m = sum_more p a in
+    let i : a + 1 + n ≡ a + suc n = omega arith in
+    let e = ap (sum_below p) i in
+    omega arith
+
+pub total_below : (p : ℕ → ℕ) (n : ℕ) → fold (λ s x. s + x) 0 (map p (range_with_len 0 n)) ≡ sum_below p n
+total_below p n = let r = total_from p 0 0 n in let i : 0 + n ≡ n = omega arith in let e = ap (sum_below p) i in omega arith
 
 -- sums of positions that are the same, or no larger
 pub sum_same : (p q : ℕ → ℕ) (n : ℕ) → ((i : ℕ) → p i ≡ q i) → sum_below p n ≡ sum_below q n

@@ -1,9 +1,7 @@
 -- Rows of instances that have not stepped.
-use Rattle.std.proofs.Common.{◌≡◌, ℕ, zero, suc, ◌<◌, List, length, get_or, replicate, refl, arith}
-use Rattle.charts.specs.declared.parts.Event.{Event}
-use Rattle.orders.specs.Passing.{passing}
+use Rattle.std.proofs.Common.{◌≡◌, ℕ, zero, suc, ◌<◌, length, get_or, replicate, refl, arith}
 use Rattle.rules.specs.declared.row.Row.{Row}
-use Rattle.rules.specs.Places.{no_row, place_of, sent_of, Within, Tallied}
+use Rattle.rules.specs.Places.{no_row, place_of, sent_of}
 
 abbrev new_row : Row
 new_row = record { position = 0; sent = replicate 32 0 }
@@ -27,15 +25,3 @@ pub new_even : (n i : ℕ) → i < n → length (get_or (replicate n new_row) i 
 new_even zero i h = absurd (omega arith)
 new_even (suc n) zero h = refl
 new_even (suc n) (suc i) h = new_even n i (omega arith)
-
-none_passing : (L : List (List Event)) (i j k l : ℕ) → k ≡ 0 → passing L i j k l ≡ 0
-none_passing L i j k l e = rw e refl
-
-pub new_within : (L : List (List Event)) (rows : List Row) → ((i : ℕ) → place_of rows i ≡ 0) → Within L rows
-new_within L rows p i = let q = p i in omega arith
-
-pub new_tallied : (L : List (List Event)) (rows : List Row) → ((i : ℕ) → place_of rows i ≡ 0) → ((i j : ℕ) → sent_of rows i j ≡ 0) → Tallied L rows
-new_tallied L rows p s i j h =
-    let a = s i j in
-    let b = none_passing L i j (place_of rows i) (place_of rows j) (p i) in
-    omega arith

@@ -3,3 +3,4 @@ pub mod Rules
 pub mod Held
 pub mod Drove
 pub mod Made
+pub mod Boards

@@ -1,9 +1,8 @@
-ghost use Rattle.std.specs.Prelude.{◌≡◌, ℕ, length};
-ghost use Rattle.copies.specs.Kept.{kept};
-ghost use Rattle.orders.specs.Driving.{lowest as lowest_of, driven};
-ghost use Rattle.rules.specs.Places.{place_of};
+ghost use Rattle.std.specs.Prelude.{◌≡◌, length};
+ghost use Rattle.orders.specs.Driving.{lowest as lowest_of};
 ghost use Rattle.rules.specs.Held.{held_now, some_below};
 ghost use Rattle.rules.specs.Drove.{Wrote};
+ghost use Rattle.rules.specs.Boards.{lists_of, positions, drive_of};
 
 use crate::board::Board;
 use crate::held::Held;
@@ -12,7 +11,7 @@ use media::Medium;
 impl Board {
     // Whether instance j may run, and not by the event that is held.
     fn may_but<M: Medium>(&self, medium: &M, held: Option<Held>, j: usize) -> bool
-        ensures { result ≡ held_now (M.carries medium.now) (kept self.now.copy) held (place_of self.now.rows.table) j }
+        ensures { result ≡ held_now (M.carries medium.now) (lists_of self.now) held (positions self.now) j }
     {
         match held {
             None => self.may(medium, j),
@@ -25,28 +24,23 @@ impl Board {
 
     // The lowest-numbered instance that may run, and not by the event that is held.
     pub fn lowest<M: Medium>(&self, medium: &M, held: Option<Held>) -> Option<usize>
-        ensures { result ≡ some_below (length (kept self.now.copy)) (lowest_of (held_now (M.carries medium.now) (kept self.now.copy) held (place_of self.now.rows.table)) (length (kept self.now.copy))) }
+        ensures { result ≡ some_below (length (lists_of self.now)) (lowest_of (held_now (M.carries medium.now) (lists_of self.now) held (positions self.now)) (length (lists_of self.now))) }
     {
-        for j in 0..self.copy.width() {
-            if self.may_but(medium, held, j) {
-                return Some(j);
-            }
-        }
-        None
+        (0..self.copy.width()).find(|j| self.may_but(medium, held, *j))
     }
 
     // Makes as many lowest-numbered steps as the buffer is long, or until none is left, and writes their instances.
     pub fn drive<M: Medium>(&mut self, medium: &M, held: Option<Held>, out: &mut [u8]) -> usize
         ensures keeps { self.new.copy ≡ self.old.copy }
-        ensures wrote { Wrote (driven (held_now (M.carries medium.now) (kept self.old.copy) held) (length (kept self.old.copy)) (length out.old) (place_of self.old.rows.table)) self.old.rows.table self.new.rows.table out.old out.new }
-        ensures made { result ≡ length (driven (held_now (M.carries medium.now) (kept self.old.copy) held) (length (kept self.old.copy)) (length out.old) (place_of self.old.rows.table)) }
+        ensures wrote { Wrote (drive_of (M.carries medium.now) self.old held (length out.old)) self.old.rows.table self.new.rows.table out.old out.new }
+        ensures made { result ≡ length (drive_of (M.carries medium.now) self.old held (length out.old)) }
     {
-        for made in 0..out.len() {
+        for (made, cell) in out.iter_mut().enumerate() {
             let Some(i) = self.lowest(medium, held) else {
                 return made;
             };
             self.advance(i);
-            out[made] = i as u8;
+            *cell = i as u8;
         }
         out.len()
     }

@@ -11,11 +11,10 @@ mod may;
 mod passing;
 mod row;
 mod rows;
+mod starting;
 mod stepping;
-mod steps;
 
 pub use board::Board;
 pub use held::Held;
 pub use row::Row;
 pub use rows::Rows;
-pub use steps::Steps;

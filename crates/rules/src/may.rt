@@ -1,42 +1,43 @@
-ghost use Rattle.std.specs.Prelude.{◌≡◌, length, if◌then◌else◌};
-ghost use Rattle.copies.specs.Kept.{kept};
+ghost use Rattle.std.specs.Prelude.{◌≡◌, if◌then◌else◌};
 ghost use Rattle.orders.specs.Deciding.{unfinished, may_now_at, waits_now};
-ghost use Rattle.rules.specs.Places.{place_of, sent_of};
+ghost use Rattle.rules.specs.Places.{sent_of};
 ghost use Rattle.rules.specs.Rules.{mate_ran, slot_may, slot_waits};
+ghost use Rattle.rules.specs.Boards.{lists_of, positions};
 
 use crate::board::Board;
-use charts::{ACTION, ENVIRONMENT, INPUT, OUTPUT};
+use charts::{Kind, Peer};
 use copies::Slot;
 use media::Medium;
 
 impl Board {
     // Whether the other event of the slot's message has run.
     pub(crate) fn mate_ran(&self, slot: Slot) -> bool
-        ensures { result ≡ mate_ran (place_of self.now.rows.table) slot }
+        ensures { result ≡ mate_ran (positions self.now) slot }
     {
         usize::from(slot.mate) < self.position(usize::from(slot.event.peer))
     }
 
     // Whether the slot's event, the next of instance i, may run.
     fn allows<M: Medium>(&self, medium: &M, i: usize, slot: Slot) -> bool
-        ensures { result ≡ slot_may (M.carries medium.now) (length (kept self.now.copy)) (place_of self.now.rows.table) (sent_of self.now.rows.table) i slot }
+        ensures { result ≡ slot_may (M.carries medium.now) (positions self.now) (sent_of self.now.rows.table) i slot }
     {
-        let peer = usize::from(slot.event.peer);
-        let width = self.copy.width();
-        match slot.event.kind {
-            ACTION => true,
-            OUTPUT | INPUT if slot.event.peer == ENVIRONMENT => true,
-            OUTPUT if peer < width => medium.sends(i, peer, self.rows.on_the_way(i, peer)),
-            INPUT if peer < width => {
-                self.mate_ran(slot) && medium.takes(peer, i, usize::from(slot.ahead))
+        match (Kind::try_from(slot.event.kind), Peer::from(slot.event.peer)) {
+            (Ok(Kind::Action), _) => true,
+            (Ok(Kind::Output | Kind::Input), Peer::Environment) => true,
+            (Ok(Kind::Output), Peer::Instance(peer)) => {
+                let peer = usize::from(peer);
+                medium.sends(i, peer, self.rows.on_the_way(i, peer))
             }
-            _ => false,
+            (Ok(Kind::Input), Peer::Instance(peer)) => {
+                self.mate_ran(slot) && medium.takes(usize::from(peer), i, usize::from(slot.ahead))
+            }
+            (Err(_), _) => false,
         }
     }
 
     // Whether instance i has an event left, and its next may run.
     pub fn may<M: Medium>(&self, medium: &M, i: usize) -> bool
-        ensures { result ≡ may_now_at (M.carries medium.now) (kept self.now.copy) (place_of self.now.rows.table) i }
+        ensures { result ≡ may_now_at (M.carries medium.now) (lists_of self.now) (positions self.now) i }
     {
         match self.next(i) {
             None => false,
@@ -46,11 +47,11 @@ impl Board {
 
     // What the slot's event, the next of instance i, waits for where it may not run.
     fn awaits(&self, i: usize, slot: Slot) -> usize
-        ensures { result ≡ slot_waits (place_of self.now.rows.table) i slot }
+        ensures { result ≡ slot_waits (positions self.now) i slot }
     {
         let peer = usize::from(slot.event.peer);
-        match slot.event.kind {
-            OUTPUT => peer,
+        match Kind::try_from(slot.event.kind) {
+            Ok(Kind::Output) => peer,
             _ if self.mate_ran(slot) => i,
             _ => peer,
         }
@@ -58,7 +59,7 @@ impl Board {
 
     // What the next event of instance i waits for where it may not run; i itself where it has finished.
     pub fn waits_for(&self, i: usize) -> usize
-        ensures { result ≡ (if unfinished (kept self.now.copy) (place_of self.now.rows.table) i then waits_now (kept self.now.copy) (place_of self.now.rows.table) i else i) }
+        ensures { result ≡ (if unfinished (lists_of self.now) (positions self.now) i then waits_now (lists_of self.now) (positions self.now) i else i) }
     {
         match self.next(i) {
             None => i,

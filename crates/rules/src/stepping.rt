@@ -20,27 +20,24 @@ impl Rows {
     pub(crate) fn position(&self, i: usize) -> usize
         ensures { result ≡ place_of self.now.table i }
     {
-        if i < 32 {
-            usize::from(self.table[i].position)
-        } else {
-            0
-        }
+        self.table.get(i).map_or(0, |row| usize::from(row.position))
     }
 
     // How many messages are on the way from i to j.
     pub(crate) fn on_the_way(&self, i: usize, j: usize) -> usize
         ensures { result ≡ sent_of self.now.table i j }
     {
-        if i < 32 && j < 32 {
-            usize::from(self.table[i].sent[j])
-        } else {
-            0
-        }
+        self.table
+            .get(i)
+            .and_then(|row| row.sent.get(j))
+            .map_or(0, |count| usize::from(*count))
     }
 
-    // One message more is on the way from i to j.
+    // One message more is on the way from i to j. Its twin below takes one away: one method of both would take the step as a closure, and say less.
     pub(crate) fn send(&mut self, i: usize, j: usize)
-        requires { (i < 32) × ((j < 32) × (sent_of self.old.table i j + 1 < 2 ^ 16)) }
+        requires sender { i < 32 }
+        requires receiver { j < 32 }
+        requires fits { sent_of self.old.table i j + 1 < 2 ^ 16 }
         ensures places { (x : ℕ) → place_of self.new.table x ≡ place_of self.old.table x }
         ensures counts { (x y : ℕ) → sent_of self.new.table x y ≡ sent_of self.old.table x y + (if nat_eq i x && j == y then 1 else 0) }
     {
@@ -50,7 +47,9 @@ impl Rows {
 
     // One message less is on the way from i to j.
     pub(crate) fn receive(&mut self, i: usize, j: usize)
-        requires { (i < 32) × ((j < 32) × (1 ≤ sent_of self.old.table i j)) }
+        requires sender { i < 32 }
+        requires receiver { j < 32 }
+        requires sent { 1 ≤ sent_of self.old.table i j }
         ensures places { (x : ℕ) → place_of self.new.table x ≡ place_of self.old.table x }
         ensures counts { (x y : ℕ) → sent_of self.new.table x y + (if nat_eq i x && j == y then 1 else 0) ≡ sent_of self.old.table x y }
     {
@@ -60,7 +59,8 @@ impl Rows {
 
     // One event more of instance i has run.
     pub(crate) fn advance(&mut self, i: usize)
-        requires { (i < 32) × (place_of self.old.table i + 1 < 2 ^ 16) }
+        requires instance { i < 32 }
+        requires fits { place_of self.old.table i + 1 < 2 ^ 16 }
         ensures places { (x : ℕ) → place_of self.new.table x ≡ moved (place_of self.old.table) i x }
         ensures counts { (x y : ℕ) → sent_of self.new.table x y ≡ sent_of self.old.table x y }
     {

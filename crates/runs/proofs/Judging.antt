@@ -1,5 +1,5 @@
 -- Judge answers and writes what the history fixes.
-use Rattle.std.proofs.Common.{◌≡◌, ℕ, zero, suc, ◌+◌, ◌-◌, ◌<◌, ◌≤◌, true, false, leb, List, ◌++◌, length, take, drop, Ok, sym, refl, ap, ◌∙◌, subst, arith, length-drop, length-take}
+use Rattle.std.proofs.Common.{◌≡◌, ℕ, zero, suc, ◌+◌, ◌-◌, ◌<◌, ◌≤◌, true, false, leb, List, ◌++◌, length, Ok, sym, refl, ap, ◌∙◌, subst, arith}
 use mathlib.Core.Path.{fun_ext}
 use Rattle.std.proofs.lemmas.Bool.{leb-true, ltb-true, le-leb, and_parts, and_from, both_ways}
 use Rattle.charts.specs.declared.parts.Event.{Event}
@@ -155,7 +155,3 @@ ring_fits L p out room a few =
     let q = and_parts (leb 32 (length out)) (leb (size L) (steps_made L p + length out)) room in
     let b = leb-true 32 (length out) q.0 in
     omega arith
-
--- a ring has at most 32 members
-pub members_few : (start end : ℕ) (path : List ℕ) (a : ℕ) → end ≤ 32 → a ≡ length (drop start (take end path)) → a ≤ 32
-members_few start end path a few is = let l = length-drop start (take end path) in let m = length-take end path in omega arith

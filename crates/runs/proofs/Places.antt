@@ -1,5 +1,5 @@
 -- Latest answers what the history fixes.
-use Rattle.std.proofs.Common.{◌≡◌, ℕ, suc, ◌+◌, ◌<◌, ◌≤◌, List, ◌++◌, length, take, None, Ok, Err, sym, refl, ap, ◌∙◌, subst, arith, length-take, w64, Fits}
+use Rattle.std.proofs.Common.{◌≡◌, ℕ, suc, ◌+◌, ◌<◌, ◌≤◌, List, ◌++◌, length, None, Ok, Err, sym, refl, ap, ◌∙◌, subst, arith, w64, Fits}
 use Rattle.std.proofs.lemmas.Bool.{ltb-true}
 use Rattle.charts.specs.declared.parts.Event.{Event}
 use Rattle.charts.specs.Lists.{count_of, size}
@@ -89,9 +89,6 @@ module _ (M : Carry) (L : List (List Event)) (sound : Sound L) (rows mid end : L
 -- the numbers that latest adds are small
 pub made_few : (L : List (List Event)) → Sound L → (p : ℕ → ℕ) → ((i : ℕ) → p i ≤ count_of L i) → (a : ℕ) → a ≡ steps_made L p → a ≤ 4096
 made_few L sound p within a is = let m = made_most L p within in let few = sound.few_events in omega arith
-
-pub steps_few : (n : ℕ) (xs : List ℕ) (a : ℕ) → a ≡ length (take n xs) → n ≤ 4096 → a ≤ 4096
-steps_few n xs a is h = let l = length-take n xs in omega arith
 
 pub place_fits : (a b : ℕ) → a ≤ 4096 → b ≤ 4096 → Fits w64 (a + b)
 place_fits a b h k = omega arith

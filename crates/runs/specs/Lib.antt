@@ -1,6 +1,7 @@
 pub mod Refusals
 pub mod Tells
 pub mod Stands
+pub mod Runs
 pub mod Moves
 pub mod Steps
 pub mod Drives

@@ -2,7 +2,7 @@ use crate::parts::{Drove, Refusal, Verdict};
 use charts::Event;
 
 // A call of a run, with its arguments.
-#[derive(Clone, Copy)]
+#[derive(Clone, Copy, PartialEq, Eq, Debug)]
 pub enum Call {
     Step(usize),
     Drive(usize),
@@ -12,7 +12,7 @@ pub enum Call {
 }
 
 // What a call answered.
-#[derive(Clone, Copy)]
+#[derive(Clone, Copy, PartialEq, Eq, Debug)]
 pub enum Answer {
     Stepped(Event),
     Driven(Drove),

@@ -1,10 +1,6 @@
-ghost use Rattle.std.specs.Prelude.{◌≡◌, ℕ, List, Ok, Result};
-ghost use Rattle.copies.specs.Kept.{kept};
-ghost use Rattle.rules.specs.Places.{place_of};
-ghost use Rattle.runs.specs.declared.parts.Refusal.{Refusal as Refused};
-ghost use Rattle.runs.specs.declared.parts.Drove.{Drove as Made};
+ghost use Rattle.std.specs.Prelude.{◌≡◌, Ok};
 ghost use Rattle.runs.specs.Endings.{ending_of};
-ghost use Rattle.runs.specs.Stands.{Stands};
+ghost use Rattle.runs.specs.Runs.{fault_of, lists_of, positions, KeepsChart, TellsAfter};
 ghost use Rattle.runs.specs.Moves.{DriveMoves, RestartMoves};
 ghost use Rattle.runs.specs.Drives.{DriveAnswers};
 ghost use Rattle.runs.specs.Tells.{Tells, RefusalKeeps};
@@ -16,7 +12,7 @@ use media::Medium;
 impl<M: Medium> Run<M> {
     // How a drive of n steps ended that made so many.
     fn ending(&self, made: usize, n: usize) -> Ending
-        ensures { result ≡ ending_of (kept self.now.board.copy) (place_of self.now.board.rows.table) made n }
+        ensures { result ≡ ending_of (lists_of self.now) (positions self.now) made n }
     {
         match self.board.lowest_unfinished() {
             None => Ending::Finished,
@@ -32,9 +28,9 @@ impl<M: Medium> Run<M> {
 
     // Makes the lowest-numbered step that can be made, n times or until none is left, and writes the instances.
     pub fn drive(&mut self, n: usize, buffer: &mut [u8]) -> Result<Drove, Refusal>
-        ensures tells { (h : List ℕ) → Stands self.old.board.rows.table h → Tells self.old.board.copy.fault (λ (a : Result Made Refused). DriveAnswers (M.carries self.old.medium) (kept self.old.board.copy) h n buffer.old a buffer.new) result }
-        ensures keeps { (self.new.board.copy ≡ self.old.board.copy) × (self.new.medium ≡ self.old.medium) }
-        ensures moves { DriveMoves (place_of self.old.board.rows.table) (place_of self.new.board.rows.table) buffer.new result }
+        ensures tells { TellsAfter self.old (λ h a. DriveAnswers (M.carries self.old.medium) (lists_of self.old) h n buffer.old a buffer.new) result }
+        ensures keeps { KeepsChart self.old self.new }
+        ensures moves { DriveMoves (positions self.old) (positions self.new) buffer.new result }
         ensures refused { RefusalKeeps result self.old self.new }
         ensures unwritten { RefusalKeeps result buffer.old buffer.new }
     {
@@ -49,9 +45,9 @@ impl<M: Medium> Run<M> {
 
     // Sets every position to 0, as when new.
     pub fn restart(&mut self) -> Result<(), Refusal>
-        ensures tells { Tells self.old.board.copy.fault (λ a. a ≡ Ok tt) result }
-        ensures keeps { (self.new.board.copy ≡ self.old.board.copy) × (self.new.medium ≡ self.old.medium) }
-        ensures moves { RestartMoves (place_of self.old.board.rows.table) (place_of self.new.board.rows.table) result }
+        ensures tells { Tells (fault_of self.old) (λ a. a ≡ Ok tt) result }
+        ensures keeps { KeepsChart self.old self.new }
+        ensures moves { RestartMoves (positions self.old) (positions self.new) result }
         ensures refused { RefusalKeeps result self.old self.new }
     {
         self.check()?;

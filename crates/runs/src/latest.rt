@@ -1,8 +1,5 @@
-ghost use Rattle.std.specs.Prelude.{ℕ, List};
-ghost use Rattle.copies.specs.Kept.{kept};
-ghost use Rattle.runs.specs.Stands.{Stands};
 ghost use Rattle.runs.specs.Latests.{LatestAnswers};
-ghost use Rattle.runs.specs.Tells.{Tells};
+ghost use Rattle.runs.specs.Runs.{lists_of, TellsAfter};
 
 use crate::parts::Refusal;
 use crate::run::Run;
@@ -12,7 +9,7 @@ use rules::Held;
 impl<M: Medium> Run<M> {
     // The latest place of event k of instance i, counted from 1 over the whole order.
     pub fn latest(&self, i: usize, k: usize) -> Result<usize, Refusal>
-        ensures { (h : List ℕ) → Stands self.now.board.rows.table h → Tells self.now.board.copy.fault (LatestAnswers (M.carries self.now.medium) (kept self.now.board.copy) h i k) result }
+        ensures { TellsAfter self.now (λ h. LatestAnswers (M.carries self.now.medium) (lists_of self.now) h i k) result }
     {
         self.check()?;
         if i >= self.board.width() {

@@ -1,7 +1,7 @@
 use charts::Fault;
 
 // Why a call is refused.
-#[derive(Clone, Copy)]
+#[derive(Clone, Copy, PartialEq, Eq, Debug)]
 pub enum Refusal {
     // the chart has this fault
     Spoiled(Fault),
@@ -17,7 +17,7 @@ pub enum Refusal {
 }
 
 // How a drive ended.
-#[derive(Clone, Copy)]
+#[derive(Clone, Copy, PartialEq, Eq, Debug)]
 pub enum Ending {
     // every event has run
     Finished,
@@ -28,14 +28,14 @@ pub enum Ending {
 }
 
 // What a drive made: so many steps, and how it ended.
-#[derive(Clone, Copy)]
+#[derive(Clone, Copy, PartialEq, Eq, Debug)]
 pub struct Drove {
     pub made: usize,
     pub ending: Ending,
 }
 
 // What is to become of a run, with the number of bytes written.
-#[derive(Clone, Copy)]
+#[derive(Clone, Copy, PartialEq, Eq, Debug)]
 pub enum Verdict {
     // it runs to its end: the rest of the order was written
     Runs(usize),

@@ -1,6 +1,5 @@
 ghost use Rattle.std.specs.Prelude.{◌≡◌, ℕ, [], Ok, Err};
-ghost use Rattle.copies.specs.Kept.{kept};
-ghost use Rattle.runs.specs.Stands.{Stands};
+ghost use Rattle.runs.specs.Runs.{fault_of, lists_of, StandsAfter};
 ghost use Rattle.runs.specs.Faults.{checked_fault};
 
 use crate::parts::Refusal;
@@ -19,10 +18,10 @@ pub struct Run<M> {
 impl<M: Medium> Run<M> {
     // A new run: no instance has stepped.
     pub fn new<C: Chart>(chart: &C, medium: M) -> Run<M>
-        ensures lists { kept result.board.copy ≡ C.Chart.lists chart.now }
-        ensures fault { result.board.copy.fault ≡ C.Chart.trouble chart.now }
+        ensures lists { lists_of result ≡ C.Chart.lists chart.now }
+        ensures fault { fault_of result ≡ C.Chart.trouble chart.now }
         ensures medium { result.medium ≡ medium }
-        ensures stands { Stands result.board.rows.table [] }
+        ensures stands { StandsAfter result [] }
     {
         Run {
             board: Board::new(Indexed::new(chart)),
@@ -32,7 +31,7 @@ impl<M: Medium> Run<M> {
 
     // Refuses a spoiled chart by its fault.
     pub(crate) fn check(&self) -> Result<(), Refusal>
-        ensures { result ≡ checked_fault self.now.board.copy.fault }
+        ensures { result ≡ checked_fault (fault_of self.now) }
     {
         match self.board.fault() {
             None => Ok(()),

@@ -1,10 +1,7 @@
-ghost use Rattle.std.specs.Prelude.{◌≡◌, ℕ, List};
-ghost use Rattle.copies.specs.Kept.{kept};
-ghost use Rattle.rules.specs.Places.{place_of};
-ghost use Rattle.runs.specs.Stands.{Stands};
 ghost use Rattle.runs.specs.Steps.{StepAnswers};
 ghost use Rattle.runs.specs.Moves.{StepMoves};
-ghost use Rattle.runs.specs.Tells.{Tells, RefusalKeeps};
+ghost use Rattle.runs.specs.Runs.{lists_of, positions, KeepsChart, TellsAfter};
+ghost use Rattle.runs.specs.Tells.{RefusalKeeps};
 
 use crate::parts::Refusal;
 use crate::run::Run;
@@ -14,9 +11,9 @@ use media::Medium;
 impl<M: Medium> Run<M> {
     // Runs the next event of instance i and answers it.
     pub fn step(&mut self, i: usize) -> Result<Event, Refusal>
-        ensures tells { (h : List ℕ) → Stands self.old.board.rows.table h → Tells self.old.board.copy.fault (StepAnswers (M.carries self.old.medium) (kept self.old.board.copy) h i) result }
-        ensures keeps { (self.new.board.copy ≡ self.old.board.copy) × (self.new.medium ≡ self.old.medium) }
-        ensures moves { StepMoves (place_of self.old.board.rows.table) (place_of self.new.board.rows.table) i result }
+        ensures tells { TellsAfter self.old (λ h. StepAnswers (M.carries self.old.medium) (lists_of self.old) h i) result }
+        ensures keeps { KeepsChart self.old self.new }
+        ensures moves { StepMoves (positions self.old) (positions self.new) i result }
         ensures refused { RefusalKeeps result self.old self.new }
     {
         self.check()?;

@@ -1,80 +1,35 @@
-ghost use Rattle.std.specs.Prelude.{◌≡◌, ℕ, List};
-ghost use Rattle.copies.specs.Kept.{kept};
-ghost use Rattle.runs.specs.declared.calls.Answer.TheVariants.{Stepped, Driven, Restarted, Judged, Place};
-ghost use Rattle.runs.specs.Answers.{noted};
-ghost use Rattle.runs.specs.Stands.{Stands};
+ghost use Rattle.std.specs.Prelude.{ℕ, List};
+ghost use Rattle.runs.specs.Runs.{fault_of, lists_of, KeepsChart, StandsAfter};
 ghost use Rattle.runs.specs.Made.{MakesCall, Makes};
 
 use crate::calls::{Answer, Call, Turn};
-use crate::parts::{Drove, Refusal, Verdict};
 use crate::run::Run;
-use charts::Event;
 use media::Medium;
-
-// Results noted as answers.
-fn note_step(res: Result<Event, Refusal>) -> Answer
-    ensures { result ≡ noted Stepped res }
-{
-    match res {
-        Ok(event) => Answer::Stepped(event),
-        Err(refusal) => Answer::Refused(refusal),
-    }
-}
-
-fn note_drive(res: Result<Drove, Refusal>) -> Answer
-    ensures { result ≡ noted Driven res }
-{
-    match res {
-        Ok(drove) => Answer::Driven(drove),
-        Err(refusal) => Answer::Refused(refusal),
-    }
-}
-
-fn note_restart(res: Result<(), Refusal>) -> Answer
-    ensures { result ≡ noted (λ _. Restarted) res }
-{
-    match res {
-        Ok(()) => Answer::Restarted,
-        Err(refusal) => Answer::Refused(refusal),
-    }
-}
-
-fn note_verdict(res: Result<Verdict, Refusal>) -> Answer
-    ensures { result ≡ noted Judged res }
-{
-    match res {
-        Ok(verdict) => Answer::Judged(verdict),
-        Err(refusal) => Answer::Refused(refusal),
-    }
-}
-
-fn note_place(res: Result<usize, Refusal>) -> Answer
-    ensures { result ≡ noted Place res }
-{
-    match res {
-        Ok(place) => Answer::Place(place),
-        Err(refusal) => Answer::Refused(refusal),
-    }
-}
 
 // Makes a call with the buffer that it is handed.
 fn make_call<M: Medium>(run: &mut Run<M>, call: Call, buffer: &mut [u8]) -> Answer
-    ensures keeps { (run.new.board.copy ≡ run.old.board.copy) × (run.new.medium ≡ run.old.medium) }
-    ensures makes { (h : List ℕ) → Stands run.old.board.rows.table h → MakesCall run.old.board.copy.fault (M.carries run.old.medium) (kept run.old.board.copy) h call buffer.old result buffer.new run.new.board.rows.table }
+    ensures keeps { KeepsChart run.old run.new }
+    ensures makes { (h : List ℕ) → StandsAfter run.old h → MakesCall (fault_of run.old) (M.carries run.old.medium) (lists_of run.old) h call buffer.old result buffer.new run.new.board.rows.table }
 {
     match call {
-        Call::Step(i) => note_step(run.step(i)),
-        Call::Drive(n) => note_drive(run.drive(n, buffer)),
-        Call::Restart => note_restart(run.restart()),
-        Call::Judge => note_verdict(run.judge(buffer)),
-        Call::Latest(i, k) => note_place(run.latest(i, k)),
+        Call::Step(i) => run.step(i).map_or_else(Answer::Refused, Answer::Stepped),
+        Call::Drive(n) => run
+            .drive(n, buffer)
+            .map_or_else(Answer::Refused, Answer::Driven),
+        Call::Restart => run
+            .restart()
+            .map_or_else(Answer::Refused, |()| Answer::Restarted),
+        Call::Judge => run
+            .judge(buffer)
+            .map_or_else(Answer::Refused, Answer::Judged),
+        Call::Latest(i, k) => run.latest(i, k).map_or_else(Answer::Refused, Answer::Place),
     }
 }
 
 // Makes the call of the turn, and notes its answer.
 pub(crate) fn take_turn<M: Medium>(run: &mut Run<M>, turn: &mut Turn)
-    ensures keeps { (run.new.board.copy ≡ run.old.board.copy) × (run.new.medium ≡ run.old.medium) }
-    ensures makes { (h : List ℕ) → Stands run.old.board.rows.table h → Makes run.old.board.copy.fault (M.carries run.old.medium) (kept run.old.board.copy) h turn.old turn.new run.new.board.rows.table }
+    ensures keeps { KeepsChart run.old run.new }
+    ensures makes { (h : List ℕ) → StandsAfter run.old h → Makes (fault_of run.old) (M.carries run.old.medium) (lists_of run.old) h turn.old turn.new run.new.board.rows.table }
 {
     let call = turn.call;
     let answer = make_call(run, call, turn.buffer.as_mut_slice());

@@ -1,4 +1,4 @@
-use Rattle.std.proofs.Common.{sym, refl, subst}
+use Rattle.std.proofs.Common.{rules, sym, refl, subst}
 use Rattle.copies.specs.Kept.{kept}
 use Rattle.copies.proofs.Kept.{kept_sound}
 use Rattle.runs.specs.declared.calls.Call.{Call}
@@ -15,8 +15,8 @@ returns-in-Step g c =
     record {
       keeps = (c.step.ensures.keeps.0, c.step.ensures.keeps.1);
       makes = λ h s.
-          subst (λ (call : Call). MakesCall b.copy.fault M L h call out c.note_step.result out c.step.new.self.board.rows.table) (sym c.in-Step.is)
-          (step_makes M L (kept_sound b.copy) h b.rows.table s out c.step.new.self.board.rows.table b.copy.fault c.in-Step.i c.step.result c.note_step.result (c.step.ensures.tells h s) c.step.ensures.moves c.note_step.ensures);
+          subst (λ (call : Call). MakesCall b.copy.fault M L h call out c.map_or_else.result out c.step.new.self.board.rows.table) (sym c.in-Step.is)
+          (step_makes M L (kept_sound b.copy) h b.rows.table s out c.step.new.self.board.rows.table b.copy.fault c.in-Step.i c.step.result c.map_or_else.result (c.step.ensures.tells h s) c.step.ensures.moves (search rules));
     }
 
 pub returns-in-Drive : goal.returns-in-Drive
@@ -28,8 +28,8 @@ returns-in-Drive g c =
     record {
       keeps = (c.drive.ensures.keeps.0, c.drive.ensures.keeps.1);
       makes = λ h s.
-          subst (λ (call : Call). MakesCall b.copy.fault M L h call out c.note_drive.result c.drive.new.buffer c.drive.new.self.board.rows.table) (sym c.in-Drive.is)
-          (drive_makes M L (kept_sound b.copy) h b.rows.table s out c.drive.new.self.board.rows.table c.drive.new.buffer b.copy.fault c.in-Drive.n c.drive.result c.note_drive.result (c.drive.ensures.tells h s) c.drive.ensures.moves c.drive.ensures.unwritten c.note_drive.ensures);
+          subst (λ (call : Call). MakesCall b.copy.fault M L h call out c.map_or_else-in-Drive.result c.drive.new.buffer c.drive.new.self.board.rows.table) (sym c.in-Drive.is)
+          (drive_makes M L (kept_sound b.copy) h b.rows.table s out c.drive.new.self.board.rows.table c.drive.new.buffer b.copy.fault c.in-Drive.n c.drive.result c.map_or_else-in-Drive.result (c.drive.ensures.tells h s) c.drive.ensures.moves c.drive.ensures.unwritten (search rules));
     }
 
 pub returns-in-Restart : goal.returns-in-Restart
@@ -41,8 +41,8 @@ returns-in-Restart g c =
     record {
       keeps = (c.restart.ensures.keeps.0, c.restart.ensures.keeps.1);
       makes = λ h s.
-          subst (λ (call : Call). MakesCall b.copy.fault M L h call out c.note_restart.result out c.restart.new.self.board.rows.table) (sym c.in-Restart.is)
-          (restart_makes M L (kept_sound b.copy) h b.rows.table s out c.restart.new.self.board.rows.table b.copy.fault c.restart.result c.note_restart.result c.restart.ensures.tells c.restart.ensures.moves c.note_restart.ensures);
+          subst (λ (call : Call). MakesCall b.copy.fault M L h call out c.map_or_else-in-Restart.result out c.restart.new.self.board.rows.table) (sym c.in-Restart.is)
+          (restart_makes M L (kept_sound b.copy) h b.rows.table s out c.restart.new.self.board.rows.table b.copy.fault c.restart.result c.map_or_else-in-Restart.result c.restart.ensures.tells c.restart.ensures.moves (search rules));
     }
 
 pub returns-in-Judge : goal.returns-in-Judge
@@ -54,8 +54,8 @@ returns-in-Judge g c =
     record {
       keeps = (refl, refl);
       makes = λ h s.
-          subst (λ (call : Call). MakesCall b.copy.fault M L h call out c.note_verdict.result c.judge.new.buffer b.rows.table) (sym c.in-Judge.is)
-          (judge_makes M L (kept_sound b.copy) h b.rows.table s out c.judge.new.buffer b.copy.fault c.judge.result c.note_verdict.result (c.judge.ensures.tells h s) c.judge.ensures.keeps c.note_verdict.ensures);
+          subst (λ (call : Call). MakesCall b.copy.fault M L h call out c.map_or_else-in-Judge.result c.judge.new.buffer b.rows.table) (sym c.in-Judge.is)
+          (judge_makes M L (kept_sound b.copy) h b.rows.table s out c.judge.new.buffer b.copy.fault c.judge.result c.map_or_else-in-Judge.result (c.judge.ensures.tells h s) c.judge.ensures.keeps (search rules));
     }
 
 pub returns-in-Latest : goal.returns-in-Latest
@@ -67,6 +67,6 @@ returns-in-Latest g c =
     record {
       keeps = (refl, refl);
       makes = λ h s.
-          subst (λ (call : Call). MakesCall b.copy.fault M L h call out c.note_place.result out b.rows.table) (sym c.in-Latest.is)
-          (latest_makes M L (kept_sound b.copy) h b.rows.table s out b.copy.fault c.in-Latest.i c.in-Latest.k c.latest.result c.note_place.result (c.latest.ensures h s) c.note_place.ensures);
+          subst (λ (call : Call). MakesCall b.copy.fault M L h call out c.map_or_else-in-Latest.result out b.rows.table) (sym c.in-Latest.is)
+          (latest_makes M L (kept_sound b.copy) h b.rows.table s out b.copy.fault c.in-Latest.i c.in-Latest.k c.latest.result c.map_or_else-in-Latest.result (c.latest.ensures h s) (search rules));
     }

@@ -90,13 +90,13 @@ pass-requires c =
     let x = c.in-Some.slot in
     let e = sym c.next.ensures ∙ c.in-Some.is in
     let w = c.width-width.result in
-    let r = c.mate_ran-ran.result in (
-      low b i x e w c.width-width.ensures r c.mate_ran-ran.ensures,
-      (
-        narrow b i x e w c.width-width.ensures r c.mate_ran-ran.ensures,
-        (fits b i x e w c.width-width.ensures r c.mate_ran-ran.ensures, sent b i x e w c.width-width.ensures r c.mate_ran-ran.ensures),
-      ),
-    )
+    let r = c.mate_ran-ran.result in
+    record {
+      instance = low b i x e w c.width-width.ensures r c.mate_ran-ran.ensures;
+      narrow = narrow b i x e w c.width-width.ensures r c.mate_ran-ran.ensures;
+      fits = fits b i x e w c.width-width.ensures r c.mate_ran-ran.ensures;
+      sent = sent b i x e w c.width-width.ensures r c.mate_ran-ran.ensures;
+    }
 
 pub advance-requires : goal.advance-requires
 advance-requires c =
@@ -109,7 +109,7 @@ advance-requires c =
     let w = b.within i in
     let s = count_size (kept b.copy) i in
     let few = (kept_sound b.copy).few_events in
-    (n, omega arith)
+    record { instance = n; fits = omega arith }
 
 pub invariant_of-self : goal.invariant_of-self
 invariant_of-self c =

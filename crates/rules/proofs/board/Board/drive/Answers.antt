@@ -1,4 +1,5 @@
 use Rattle.std.proofs.Common.{length, sym, ap, ◌∙◌, arith}
+use Rattle.std.proofs.lemmas.List.{set-get_or}
 use Rattle.copies.specs.Kept.{kept}
 use Rattle.copies.proofs.Kept.{kept_sound}
 use Rattle.rules.specs.Held.{held_now}
@@ -12,10 +13,10 @@ returns-in_default g c =
     let l = c.loop-made in
     let stop = turn_stop M L c.args.held (kept l.self.copy) (ap kept (sym l.invariant.0)) l.self.rows.table c.in_default.ensures in
     let r = turns_stop (held_now M L c.args.held) (length L) l.made (length c.args.out.now) _ l.self.rows.table c.args.out.now l.out l.invariant.1 (omega arith) stop in
-    record { keeps = l.invariant.0; wrote = r.1; made = r.0 }
+    record { keeps = l.invariant.0; wrote = rw (set-get_or l.out l.made 0) r.1; made = r.0 }
 
-pub overflow_cast-out : goal.overflow_cast-out
-overflow_cast-out g c =
+pub overflow_cast-cell : goal.overflow_cast-cell
+overflow_cast-cell g c =
     let l = c.loop-made in
     let f = fits_byte (kept l.self.copy) (kept_sound l.self.copy) c.in-Some.i _ c.in-Some.ensures in
     omega arith

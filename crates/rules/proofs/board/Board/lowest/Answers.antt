@@ -1,17 +1,15 @@
-use Rattle.std.proofs.Common.{sym, ◌∙◌, arith}
+use Rattle.std.proofs.Common.{◌≡◌, true, false, rules}
+use borrow.Author.Tests.{tests}
+use Rattle.std.proofs.lemmas.Iterator.{first_from_Range}
 use Rattle.copies.specs.Kept.{kept}
-use Rattle.rules.specs.Places.{place_of}
 use Rattle.rules.specs.Held.{held_now}
-use Rattle.rules.proofs.Found.{found_here, found_none}
+use Rattle.rules.specs.Places.{place_of}
+use Rattle.rules.proofs.Found.{found}
 use Rattle.rules.proofs.board.Board.lowest.Goals as goal
-
-pub returns-then-may_but : goal.returns-then-may_but
-returns-then-may_but g c =
-    let b = c.args.self.now in
-    found_here (held_now (g.M.Medium.carries c.args.medium.now) (kept b.copy) c.args.held (place_of b.rows.table)) _ c.loop-j.j (omega arith) c.loop-j.invariant
-    (sym c.may_but.ensures ∙ c.if-may_but.true)
 
 pub returns : goal.returns
 returns g c =
     let b = c.args.self.now in
-    found_none (held_now (g.M.Medium.carries c.args.medium.now) (kept b.copy) c.args.held (place_of b.rows.table)) _ c.loop-j.j (omega arith) c.loop-j.invariant
+    let test = held_now (g.M.Medium.carries c.args.medium.now) (kept b.copy) c.args.held (place_of b.rows.table) in
+    let first = first_from_Range _ _ _ c.find.result (λ j. test j ≡ true) (λ j. test j ≡ false) c.find.ensures.ran (λ x q k. search (rules, tests)) (λ x q k. search (rules, tests)) in
+    rw (c.width.ensures) at (found test _ c.find.result first)

@@ -1,22 +1,13 @@
 use Rattle.std.proofs.Common.{sym, ap, ◌∙◌}
-use Rattle.std.proofs.lemmas.Bool.{lt-ltb, le-ltb, cond-true, cond-false}
+use Rattle.std.proofs.lemmas.Bool.{lt-ltb, cond-true}
 use Rattle.charts.specs.Lists.{count_of}
 use Rattle.orders.specs.Deciding.{unfinished, waits_now}
 use Rattle.copies.specs.Kept.{kept}
 use Rattle.copies.proofs.Kept.{kept_sound}
 use Rattle.rules.specs.Places.{place_of}
 use Rattle.rules.specs.Rules.{slot_waits}
-use Rattle.rules.proofs.Allowing.{slot_there, slot_none, slot_waits_lem}
+use Rattle.rules.proofs.Allowing.{slot_there, slot_waits_lem}
 use Rattle.rules.proofs.board.Board.waits_for.Goals as goal
-
-pub returns-in-None : goal.returns-in-None
-returns-in-None c =
-    let x = c.args.self.now in
-    let L = kept x.copy in
-    let p = place_of x.rows.table in
-    let i = c.args.i in
-    let n = slot_none L i (p i) (sym c.next.ensures ∙ c.in-None.is) in
-    sym (cond-false (unfinished L p i) (waits_now L p i) i (le-ltb (p i) (count_of L i) n))
 
 pub returns-in-Some : goal.returns-in-Some
 returns-in-Some c =
