@@ -13,6 +13,7 @@ use std::fmt;
 struct Listing<'c, C>(&'c C);
 
 // Writes a line for each event of instance i.
+#[tactic(auto, using(crate::proofs::Turns::events_more))]
 fn write_events<C: Chart, W: fmt::Write>(
     f: &mut fmt::Formatter<W>,
     chart: &C,
@@ -35,6 +36,7 @@ fn write_events<C: Chart, W: fmt::Write>(
 impl<'c, C: Chart> fmt::Display for Listing<'c, C> {
     ghost output = { λ r. Some (report_of (C.trouble r.0.now) (C.lists r.0.now)) };
 
+    #[tactic(auto, using(crate::proofs::Turns::instances_more))]
     fn fmt<W: fmt::Write>(&self, f: &mut fmt::Formatter<W>) -> fmt::Result {
         let chart = self.0;
         match chart.summary() {
