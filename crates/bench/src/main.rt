@@ -4,7 +4,7 @@
 mod run_times;
 
 use crate::run_times::measure_runs;
-use charts::{Chart, Event, INPUT, OUTPUT};
+use charts::{Chart, Event, Kind, Peer};
 use std::alloc::{AllocError, Global};
 use std::env;
 use std::time::Instant;
@@ -18,19 +18,12 @@ fn ring(heap: Global) -> Result<Vec<Event>, AllocError> {
     for i in 0..INSTANCES {
         let before = (i + INSTANCES - 1) % INSTANCES;
         for m in 0..64u16 {
-            let peer = ((i + 1) % INSTANCES) as u8;
-            events.push(Event {
-                kind: OUTPUT,
-                peer,
-                number: i * 64 + m,
-            })?;
+            let peer = Peer::Instance(((i + 1) % INSTANCES) as u8);
+            events.push(Event::new(Kind::Output, peer, i * 64 + m))?;
         }
         for m in 0..64u16 {
-            events.push(Event {
-                kind: INPUT,
-                peer: before as u8,
-                number: before * 64 + m,
-            })?;
+            let peer = Peer::Instance(before as u8);
+            events.push(Event::new(Kind::Input, peer, before * 64 + m))?;
         }
     }
     Ok(events)
@@ -40,12 +33,9 @@ fn measure(rt: &HostRuntime) -> anyhow::Result<()> {
     let events = ring(rt.alloc())?;
     let lengths = [128; 32];
     let start = Instant::now(rt)?;
-    let mut sound = 0u32;
-    for _ in 0..1000 {
-        if Table::new(&lengths, events.as_slice()).fault().is_none() {
-            sound = sound.saturating_add(1);
-        }
-    }
+    let sound = (0..1000)
+        .filter(|_| Table::new(&lengths, events.as_slice()).fault().is_none())
+        .count();
     let checked = start.elapsed(rt)?.as_micros();
     println!(rt; "{sound} of 1000 tables of 4096 events sound, {checked} microseconds in all")?;
     look_up(rt, &Table::new(&lengths, events.as_slice()))
@@ -65,10 +55,7 @@ fn look_up<C: Chart>(rt: &HostRuntime, chart: &C) -> anyhow::Result<()> {
 }
 
 fn run(rt: &HostRuntime) -> anyhow::Result<()> {
-    let mut words = Vec::new(rt.alloc());
-    for word in env::args(rt)? {
-        words.push(word)?;
-    }
+    let words = env::args(rt)?.collect::<Vec<String>>(rt.alloc())?;
     match words.as_slice() {
         [] | [_] => {
             rt.println("usage: bench tables")?;

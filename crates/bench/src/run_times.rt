@@ -1,5 +1,5 @@
 // Measures judge, and the latest places of all events, on charts of the largest sizes.
-use charts::{Chart, Event, INPUT, OUTPUT};
+use charts::{Chart, Event, Kind, Peer};
 use flats::Flat;
 use joins::After;
 use media::Free;
@@ -9,11 +9,6 @@ use std::alloc::{AllocError, Global};
 use std::time::Instant;
 use tables::Table;
 
-// An event of the message of this number.
-fn message(kind: u8, peer: u8, number: u16) -> Event {
-    Event { kind, peer, number }
-}
-
 // So many instances in pairs; in each pair the first outputs so many messages to the second, which inputs them in turn.
 fn pairs(heap: Global, couples: u8, messages: u16) -> Result<Flat, AllocError> {
     let mut lengths = Vec::new(heap);
@@ -22,10 +17,14 @@ fn pairs(heap: Global, couples: u8, messages: u16) -> Result<Flat, AllocError> {
         let first = couple * 2;
         let base = u16::from(couple).wrapping_mul(messages);
         for m in 0..messages {
-            events.push(message(OUTPUT, first + 1, base.wrapping_add(m)))?;
+            events.push(Event::new(
+                Kind::Output,
+                Peer::Instance(first + 1),
+                base.wrapping_add(m),
+            ))?;
         }
         for m in 0..messages {
-            events.push(message(INPUT, first, base.wrapping_add(m)))?;
+            events.push(Event::new(Kind::Input, Peer::Instance(first), base.wrapping_add(m)))?;
         }
         lengths.push(messages)?;
         lengths.push(messages)?;

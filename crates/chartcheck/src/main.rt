@@ -22,23 +22,15 @@ enum Wanted {
 
 // The number that the word writes in decimal; one too large to hold is as large as can be held.
 fn size(word: &str) -> Option<usize> {
-    if word.is_empty() {
+    if word.is_empty() || !word.bytes().all(|b| b.is_ascii_digit()) {
         return None;
     }
-    for b in word.bytes() {
-        if !b.is_ascii_digit() {
-            return None;
-        }
-    }
-    Some(word.parse::<usize>().unwrap_or(usize::MAX))
+    Some(word.parse().unwrap_or(usize::MAX))
 }
 
 // No argument asks for the table or the pile on standard input, `poll N R` for the poll of N keypads in R rounds.
 fn asked(rt: &HostRuntime) -> anyhow::Result<Wanted> {
-    let mut words = Vec::new(rt.alloc());
-    for word in env::args(rt)? {
-        words.push(word)?;
-    }
+    let words = env::args(rt)?.collect::<Vec<String>>(rt.alloc())?;
     Ok(match words.as_slice() {
         [] | [_] => Wanted::Input,
         [_, poll, keypads, rounds] if poll.as_str() == "poll" => {

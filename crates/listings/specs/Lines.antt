@@ -1,34 +1,24 @@
--- The lines that tell of a chart: words with one space between each and the next.
-use Rattle.std.specs.Prelude.{ℕ, cond, List, [], ◌∷◌, ◌++◌, codes, decimal, ◌==◌}
+-- The lines that tell of a chart's events, and of a text that cannot be read.
+use Rattle.std.specs.Prelude.{ℕ, cond, List, [], ◌∷◌, codes, decimal, ◌==◌}
+use Rattle.charts.specs.declared.kinds.Kind.TheVariants.{Output, Input, Action}
 use Rattle.charts.specs.declared.parts.Event.{Event}
-use Rattle.charts.specs.declared.faults.Fault.{Fault}
+use Rattle.charts.specs.declared.peers.Peer.TheVariants.{Instance, Environment}
 use Rattle.charts.specs.Events.{output, input, action, environment}
+use Rattle.charts.specs.Kinds.{name_of}
+use Rattle.charts.specs.Peers.{peer_text}
+use Rattle.charts.specs.Texts.{spaced}
 
--- the words with one space between each and the next
-abbrev pub spaced : List (List ℕ) → List ℕ
-spaced [] = []
-spaced (w ∷ []) = w
-spaced (w ∷ v ∷ vs) = w ++ (codes " " ++ spaced (v ∷ vs))
-
--- an event's kind by its name
+-- the name of the kind that a byte stands for
 abbrev pub kind_name : ℕ → List ℕ
-kind_name k = cond (k == output) (codes "out") (cond (k == input) (codes "in") (cond (k == action) (codes "action") (codes "none")))
+kind_name k = cond (k == output) (name_of Output) (cond (k == input) (name_of Input) (cond (k == action) (name_of Action) (codes "none")))
 
--- a peer by its number, or the environment
+-- the peer that a byte stands for, by its number, or the environment
 abbrev pub peer_name : ℕ → List ℕ
-peer_name p = cond (p == environment) (codes "env") (decimal p)
+peer_name p = cond (p == environment) (peer_text Environment) (peer_text (Instance p))
 
 -- event k of instance i
 abbrev pub event_line : ℕ → ℕ → Event → List ℕ
 event_line i k e = spaced (decimal i ∷ decimal k ∷ kind_name e.kind ∷ peer_name e.peer ∷ decimal e.number ∷ [])
-
--- a chart's size
-abbrev pub chart_line : ℕ → ℕ → ℕ → List ℕ
-chart_line width events span = spaced (codes "chart" ∷ decimal width ∷ decimal events ∷ decimal span ∷ [])
-
--- why a chart is spoiled
-abbrev pub fault_line : Fault → List ℕ
-fault_line f = spaced (codes "spoiled" ∷ decimal f.number ∷ decimal f.instance ∷ decimal f.event ∷ decimal f.layer ∷ [])
 
 -- the first line that cannot be read
 abbrev pub unreadable_line : ℕ → List ℕ

@@ -2,9 +2,11 @@
 use Rattle.std.specs.Prelude.{ℕ, suc, List, [], ◌∷◌, ◌++◌, length, Some, None, codes, Option}
 use Rattle.charts.specs.declared.parts.Event.{Event}
 use Rattle.charts.specs.declared.faults.Fault.{Fault}
+use Rattle.charts.specs.Faults.{fault_text}
 use Rattle.charts.specs.Lists.{size}
+use Rattle.charts.specs.Sizes.{size_text}
 use Rattle.charts.specs.Span.{span}
-use Rattle.listings.specs.Lines.{chart_line, event_line, fault_line}
+use Rattle.listings.specs.Lines.{event_line}
 
 -- bytes with a line feed behind them
 abbrev pub line : List ℕ → List ℕ
@@ -22,5 +24,5 @@ instance_lines i (es ∷ L) = event_lines i 0 es ++ instance_lines (suc i) L
 
 -- a chart's size, its events and `sound`; or only its fault
 abbrev pub report_of : Option Fault → List (List Event) → List ℕ
-report_of None L = line (chart_line (length L) (size L) (span L)) ++ (instance_lines 0 L ++ line (codes "sound"))
-report_of (Some f) L = line (fault_line f)
+report_of None L = line (size_text (record { width = length L; events = size L; span = span L })) ++ (instance_lines 0 L ++ line (codes "sound"))
+report_of (Some f) L = line (fault_text f)

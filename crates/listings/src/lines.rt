@@ -1,7 +1,9 @@
 ghost use Rattle.std.specs.Prelude.{◌≡◌, IfOk, Some, string_bytes};
-ghost use Rattle.listings.specs.Lines.{chart_line, event_line, fault_line, kind_name, peer_name, unreadable_line};
+ghost use Rattle.charts.specs.Faults.{fault_text};
+ghost use Rattle.charts.specs.Sizes.{size_text};
+ghost use Rattle.listings.specs.Lines.{event_line, kind_name, unreadable_line};
 
-use charts::{ACTION, ENVIRONMENT, Event, Fault, INPUT, OUTPUT};
+use charts::{Event, Fault, Kind, Peer, Summary};
 use std::alloc::{AllocError, Global};
 use std::fmt;
 
@@ -9,40 +11,33 @@ use std::fmt;
 pub fn kind_name(kind: u8) -> &'static str
     ensures { result.now ≡ kind_name kind }
 {
-    match kind {
-        OUTPUT => "out",
-        INPUT => "in",
-        ACTION => "action",
-        _ => "none",
+    match Kind::try_from(kind) {
+        Ok(Kind::Output) => "out",
+        Ok(Kind::Input) => "in",
+        Ok(Kind::Action) => "action",
+        Err(_) => "none",
     }
 }
 
-// A kind, shown by its name.
+// The event at an index of an instance.
 #[derive(Drop)]
-struct Kind(u8);
-
-impl fmt::Display for Kind {
-    ghost output = { λ k. Some (kind_name k.0) };
-
-    fn fmt<W: fmt::Write>(&self, f: &mut fmt::Formatter<W>) -> fmt::Result {
-        f.write_str(kind_name(self.0))
-    }
+pub(crate) struct Row {
+    pub instance: usize,
+    pub index: usize,
+    pub event: Event,
 }
 
-// A peer, shown by its number, or as the environment.
-#[derive(Drop)]
-struct Peer(u8);
-
-impl fmt::Display for Peer {
-    ghost output = { λ p. Some (peer_name p.0) };
+impl fmt::Display for Row {
+    ghost output = { λ row. Some (event_line row.instance row.index row.event) };
 
     fn fmt<W: fmt::Write>(&self, f: &mut fmt::Formatter<W>) -> fmt::Result {
-        let number = self.0;
-        if number == ENVIRONMENT {
-            f.write_str("env")
-        } else {
-            write!(f, "{number}")
-        }
+        let kind = kind_name(self.event.kind);
+        let peer = Peer::from(self.event.peer);
+        write!(
+            f,
+            "{} {} {kind} {peer} {}",
+            self.instance, self.index, self.event.number
+        )
     }
 }
 
@@ -55,33 +50,26 @@ pub fn event_line(
 ) -> Result<String, AllocError>
     ensures { IfOk result (λ s. string_bytes s ≡ event_line instance index event) }
 {
-    let kind = Kind(event.kind);
-    let peer = Peer(event.peer);
-    let number = event.number;
-    format!(in heap; "{instance} {index} {kind} {peer} {number}")
+    Row {
+        instance,
+        index,
+        event,
+    }
+    .to_string(heap)
 }
 
 // The line of a chart's size.
-pub fn chart_line(
-    heap: Global,
-    width: usize,
-    events: usize,
-    span: usize,
-) -> Result<String, AllocError>
-    ensures { IfOk result (λ s. string_bytes s ≡ chart_line width events span) }
+pub fn chart_line(heap: Global, size: Summary) -> Result<String, AllocError>
+    ensures { IfOk result (λ s. string_bytes s ≡ size_text size) }
 {
-    format!(in heap; "chart {width} {events} {span}")
+    format!(in heap; "{size}")
 }
 
 // The line of a spoiled chart.
 pub fn fault_line(heap: Global, fault: Fault) -> Result<String, AllocError>
-    ensures { IfOk result (λ s. string_bytes s ≡ fault_line fault) }
+    ensures { IfOk result (λ s. string_bytes s ≡ fault_text fault) }
 {
-    let number = fault.number;
-    let instance = fault.instance;
-    let event = fault.event;
-    let layer = fault.layer;
-    format!(in heap; "spoiled {number} {instance} {event} {layer}")
+    format!(in heap; "{fault}")
 }
 
 // The line of a text that cannot be read.

@@ -1,9 +1,10 @@
 ghost use Rattle.std.specs.Prelude.{[], Some, refl};
 
 use crate::{chart_line, event_line, fault_line, report, unreadable_line};
-use charts::{Chart, Event, Fault, NO_EVENT, Summary};
+use charts::{Chart, Event, Fault, Kind, NO_EVENT, Peer, Summary};
 use std::test::Fail;
 
+// Found by no layer of the library.
 const FAULT: Fault = Fault {
     number: 17,
     instance: 2,
@@ -45,13 +46,14 @@ fn a_report_on_a_spoiled_chart_is_its_fault(rt: HostRuntime) -> Result<(), Fail>
 #[test]
 fn lines_tell_of_a_chart(rt: HostRuntime) -> Result<(), Fail> {
     let heap = rt.alloc();
-    let event = Event {
-        kind: 2,
-        peer: 1,
-        number: 9,
-    };
+    let event = Event::new(Kind::Input, Peer::Instance(1), 9);
     assert_eq!(rt; event_line(heap, 0, 3, event)?.as_str(), "0 3 in 1 9");
-    assert_eq!(rt; chart_line(heap, 3, 14, 7)?.as_str(), "chart 3 14 7");
+    let size = Summary {
+        width: 3,
+        events: 14,
+        span: 7,
+    };
+    assert_eq!(rt; chart_line(heap, size)?.as_str(), "chart 3 14 7");
     assert_eq!(rt; fault_line(heap, FAULT)?.as_str(), "spoiled 17 2 300 0");
     assert_eq!(rt; unreadable_line(heap, 12)?.as_str(), "unreadable 12");
     Ok(())

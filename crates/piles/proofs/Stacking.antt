@@ -1,5 +1,5 @@
 -- Charts put on a stack and taken off.
-use Rattle.std.proofs.Common.{◌≡◌, ℕ, ◌+◌, ◌-◌, List, [], ◌∷◌, ◌++◌, map, reverse, length, get_or, take, Some, None, Ok, Option, Result, sym, ap, ◌∙◌, subst, arith, Bor}
+use Rattle.std.proofs.Common.{◌≡◌, ℕ, ◌+◌, ◌-◌, List, [], ◌∷◌, ◌++◌, map, reverse, length, get_or, take, option_to_list, MatchOption, Some, None, Ok, Option, Result, Vec, Global, vec_len, sym, refl, ap, ◌∙◌, subst, arith, Bor}
 use Rattle.std.proofs.lemmas.List.{map_push, nil_from_length, reverse-append, take_all, take_more}
 use Rattle.std.specs.Slice.{IsGetResult}
 use Rattle.std.specs.Option.{ok_or}
@@ -8,8 +8,9 @@ use Rattle.charts.specs.declared.faults.Fault.{Fault}
 use Rattle.flats.specs.declared.flat.Flat.{Flat}
 use Rattle.tabletexts.specs.Outcome.{Answers}
 use Rattle.tabletexts.specs.declared.parts.Unread.{Unread}
+use Rattle.tabletexts.specs.declared.parts.Unread.TheVariants.{Line}
 use Rattle.piles.specs.Meanings.{Meaning, meaning, flat_meaning}
-use Rattle.piles.specs.Stack.{join_two, shown, stack_of, top_of, turn_one}
+use Rattle.piles.specs.Stack.{Popped, join_two, shown, stack_of, top_of, turn_one}
 
 pub stack_push : (cs : List Flat) (chart : Flat) → stack_of (cs ++ chart ∷ []) ≡ flat_meaning chart ∷ stack_of cs
 stack_push cs chart = ap reverse (map_push flat_meaning cs chart) ∙ reverse-append (map flat_meaning cs) (flat_meaning chart ∷ [])
@@ -19,6 +20,13 @@ pub stack_copied : (cs ds : List Flat) (chart : Flat) (f : Option Fault) (L : Li
     (flat_meaning chart).trouble ≡ f → (flat_meaning chart).lists ≡ L → ds ≡ cs ++ chart ∷ [] → meaning f L ∷ stack_of cs ≡ stack_of ds
 stack_copied cs ds chart f L a b is =
     sym (ap stack_of is ∙ stack_push cs chart ∙ (λ t. meaning (a t) (b t) ∷ stack_of cs))
+
+-- the last of the charts is taken off, or there is none
+pub popped : (v w : Vec Flat Global) (r : Option Flat) (n : ℕ) → v.items ≡ w.items ++ option_to_list r → MatchOption r ((vec_len v ≡ 0) × (vec_len w ≡ 0)) (λ _. vec_len w + 1 ≡ vec_len v) →
+    Popped n (stack_of v.items) (ok_or r (Line n)) (stack_of w.items)
+popped v w None n items cases =
+    (ap stack_of (nil_from_length v.items (let empty = cases.0 in omega (arith, v.ok.0))), refl)
+popped v w (Some chart) n items cases = ap stack_of items ∙ stack_push w.items chart
 
 module _ {V : Type 0} (S : List Meaning) (line : ℕ) (T : List Meaning) (r : Result V Unread) where
   pub two_joined : (f : Meaning → Meaning → Meaning) (S₁ S₂ : List Meaning) (a b : Meaning) → S ≡ b ∷ S₁ → S₁ ≡ a ∷ S₂ →

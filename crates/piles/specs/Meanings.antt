@@ -1,5 +1,5 @@
 -- What a chart means: its fault, or none, and its lists; and what its making makes of that.
-use Rattle.std.specs.Prelude.{ℕ, List, vec_items, Option}
+use Rattle.std.specs.Prelude.{◌≡◌, ℕ, List, vec_items, Option}
 use Rattle.charts.specs.declared.parts.Event.{Event}
 use Rattle.charts.specs.declared.faults.Fault.{Fault}
 use Rattle.checks.specs.Checked.{checked}
@@ -45,3 +45,8 @@ beside_meaning a b =
 -- of a with its instances renamed by t
 abbrev pub recast_meaning : List ℕ → Meaning → Meaning
 recast_meaning t a = meaning (recast_trouble a.trouble a.lists t) (recast_lists a.trouble a.lists t)
+
+-- a call of two charts makes one that means what f makes of their meanings
+abbrev pub Makes : {C : Type 0} → (Meaning → Meaning → Meaning) → (Flat → Flat → C → Type 0) → (C → Option Fault) → (C → List (List Event)) → Type 0
+Makes {C} f post trouble lists =
+    (a b : Flat) (c : C) → post a b c → meaning (trouble c) (lists c) ≡ f (flat_meaning a) (flat_meaning b)

@@ -2,7 +2,7 @@ ghost use Rattle.std.specs.Prelude.{◌≡◌, [], ◌∷◌, Ok};
 ghost use Rattle.std.specs.Option.{ok_or};
 ghost use Rattle.tabletexts.specs.Outcome.{Answers};
 ghost use Rattle.piles.specs.Stack.{Popped, join_two, shown, stack_of, top_of, turn_one};
-ghost use Rattle.piles.specs.Meanings.{after_meaning, beside_meaning, meaning, recast_meaning};
+ghost use Rattle.piles.specs.Meanings.{Makes, Meaning, after_meaning, beside_meaning, meaning, recast_meaning};
 
 use charts::Chart;
 use flats::Flat;
@@ -45,28 +45,36 @@ impl Pile {
     fn pop(&mut self, line: usize) -> Result<Flat, Unread>
         ensures { Popped line (stack_of self.old.charts.items) result (stack_of self.new.charts.items) }
     {
-        match self.charts.pop() {
-            Some(chart) => Ok(chart),
-            None => Err(Unread::Line(line)),
-        }
+        self.charts.pop().ok_or(Unread::Line(line))
+    }
+
+    // Two charts taken off, and put on top what `join` makes of the lower and the upper one.
+    fn join<C: Chart + Drop, F: FnOnce(Flat, Flat) -> C>(
+        &mut self,
+        heap: Global,
+        line: usize,
+        join: F,
+    ) -> Result<(), Unread>
+        requires { F.IsAlwaysCallable join }
+        ensures { (f : Meaning → Meaning → Meaning) → Makes f (F.post join) C.Chart.trouble C.Chart.lists → Answers (λ _. stack_of self.new.charts.items) (ok_or (join_two f (stack_of self.old.charts.items)) line) result }
+    {
+        let upper = self.pop(line)?;
+        let lower = self.pop(line)?;
+        self.push(heap, &join(lower, upper))
     }
 
     // Two charts taken off, and put on top the upper one after the other.
     pub(crate) fn join_after(&mut self, heap: Global, line: usize) -> Result<(), Unread>
         ensures { Answers (λ _. stack_of self.new.charts.items) (ok_or (join_two after_meaning (stack_of self.old.charts.items)) line) result }
     {
-        let second = self.pop(line)?;
-        let first = self.pop(line)?;
-        self.push(heap, &After::new(first, second))
+        self.join(heap, line, After::new)
     }
 
     // Two charts taken off, and put on top the upper one beside the other.
     pub(crate) fn join_beside(&mut self, heap: Global, line: usize) -> Result<(), Unread>
         ensures { Answers (λ _. stack_of self.new.charts.items) (ok_or (join_two beside_meaning (stack_of self.old.charts.items)) line) result }
     {
-        let right = self.pop(line)?;
-        let left = self.pop(line)?;
-        self.push(heap, &Beside::new(left, right))
+        self.join(heap, line, Beside::new)
     }
 
     // One chart taken off, and put on top with its instances renamed.

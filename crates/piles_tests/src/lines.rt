@@ -1,4 +1,4 @@
-use piletexts::{Command, Lines, read_command, same};
+use piletexts::{Command, Lines, read_command};
 
 #[test]
 fn lines_end_in_a_line_feed_or_at_the_end(rt: HostRuntime) {
@@ -29,45 +29,35 @@ fn lines_come_in_their_order(rt: HostRuntime) {
     assert_eq!(rt; lines.next(), None);
 }
 
-fn is_poll(line: &[u8], n: u8, r: u8) -> bool {
-    match read_command(line) {
-        Some(Command::Poll(keypads, rounds)) => keypads == n && rounds == r,
-        _ => false,
-    }
-}
-
 #[test]
 fn polls_are_read(rt: HostRuntime) {
-    assert!(rt; is_poll(b"poll 0 255", 0, 255));
-    assert!(rt; is_poll(b"poll 007 1", 7, 1));
-}
-
-// Whether the line is a recast with this first and this last name.
-fn is_recast(line: &[u8], first: u8, last: u8) -> bool {
-    match read_command(line) {
-        Some(Command::Recast(names)) => names[0] == first && names[31] == last,
-        _ => false,
-    }
+    assert_eq!(rt; read_command(b"poll 0 255"), Some(Command::Poll(0, 255)));
+    assert_eq!(rt; read_command(b"poll 007 1"), Some(Command::Poll(7, 1)));
 }
 
 #[test]
 fn names_that_are_not_given_are_0(rt: HostRuntime) {
-    assert!(rt; is_recast(b"recast", 0, 0));
-    assert!(rt; is_recast(b"recast 255", 255, 0));
-    assert!(rt;
-        is_recast(
+    let mut names = [0; 32];
+    assert_eq!(rt; read_command(b"recast"), Some(Command::Recast(names)));
+    names[0] = 255;
+    assert_eq!(rt; read_command(b"recast 255"), Some(Command::Recast(names)));
+    let names = [
+        1, 2, 3, 4, 5, 6, 7, 8, 9, 10, 11, 12, 13, 14, 15, 16, 17, 18, 19, 20, 21, 22, 23, 24, 25,
+        26, 27, 28, 29, 30, 31, 32,
+    ];
+    assert_eq!(rt;
+        read_command(
             b"recast 1 2 3 4 5 6 7 8 9 10 11 12 13 14 15 16 17 18 19 20 21 22 23 24 25 26 27 28 29 30 31 32",
-            1,
-            32,
-        )
+        ),
+        Some(Command::Recast(names))
     );
 }
 
 #[test]
 fn other_words_stand_alone(rt: HostRuntime) {
-    assert!(rt; matches!(read_command(b"table"), Some(Command::Table)));
-    assert!(rt; matches!(read_command(b"after"), Some(Command::After)));
-    assert!(rt; matches!(read_command(b"beside"), Some(Command::Beside)));
+    assert_eq!(rt; read_command(b"table"), Some(Command::Table));
+    assert_eq!(rt; read_command(b"after"), Some(Command::After));
+    assert_eq!(rt; read_command(b"beside"), Some(Command::Beside));
 }
 
 #[test]
@@ -95,19 +85,21 @@ fn what_is_no_command(rt: HostRuntime) {
         b"recast 1 x",
     ];
     for line in lines {
-        assert!(rt; read_command(line).is_none());
+        assert_eq!(rt; read_command(line), None);
     }
-    assert!(rt;
+    assert_eq!(rt;
         read_command(
             b"recast 1 2 3 4 5 6 7 8 9 10 11 12 13 14 15 16 17 18 19 20 21 22 23 24 25 26 27 28 29 30 31 32 33",
-        ).is_none()
+        ),
+        None
     );
 }
 
 #[test]
 fn the_same_bytes(rt: HostRuntime) {
-    assert!(rt; same(b"", b""));
-    assert!(rt; same(b"ab", b"ab"));
-    assert!(rt; !same(b"ab", b"a"));
-    assert!(rt; !same(b"ab", b"aB"));
+    let (ab, empty): (&[u8], &[u8]) = (b"ab", b"");
+    assert!(rt; empty == b"".as_slice());
+    assert!(rt; ab == b"ab".as_slice());
+    assert!(rt; ab != b"a".as_slice());
+    assert!(rt; ab != b"aB".as_slice());
 }

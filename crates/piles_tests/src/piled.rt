@@ -1,36 +1,13 @@
-use charts::{Chart, Event, Fault, INPUT, OUTPUT};
+use charts::{Chart, Event, Fault, Kind, Layer, Peer, Rule};
 use piles::read_pile;
 use std::alloc::Global;
 use std::test::Fail;
 use tabletexts::Unread;
 
-// The number of the line that cannot be read, 0 where there is none.
-fn unreadable(heap: Global, text: &[u8]) -> usize {
-    match read_pile(heap, text) {
-        Err(Unread::Line(line)) => line,
-        _ => 0,
-    }
-}
-
 // The fault of the chart on top.
 fn fault(heap: Global, text: &[u8]) -> Option<Fault> {
-    match read_pile(heap, text) {
-        Ok(pile) => match pile.top() {
-            Some(chart) => chart.fault(),
-            None => None,
-        },
-        Err(_) => None,
-    }
-}
-
-// A fault without a place.
-fn placeless(number: u8, layer: u8) -> Option<Fault> {
-    Some(Fault {
-        number,
-        instance: 0,
-        event: 0,
-        layer,
-    })
+    let pile = read_pile(heap, text).ok()?;
+    pile.top()?.fault()
 }
 
 #[test]
@@ -46,19 +23,11 @@ fn one_hop_after_another(rt: HostRuntime) -> Result<(), Fail> {
     assert_eq!(rt; chart.span(), 6);
     assert_eq!(rt;
         chart.event(0, 1),
-        Event {
-            kind: OUTPUT,
-            peer: 1,
-            number: 5,
-        }
+        Event::new(Kind::Output, Peer::Instance(1), 5)
     );
     assert_eq!(rt;
         chart.event(1, 0),
-        Event {
-            kind: INPUT,
-            peer: 0,
-            number: 0,
-        }
+        Event::new(Kind::Input, Peer::Instance(0), 0)
     );
     Ok(())
 }
@@ -86,11 +55,7 @@ fn a_recast_renames(rt: HostRuntime) -> Result<(), Fail> {
     };
     assert_eq!(rt;
         chart.event(1, 0),
-        Event {
-            kind: OUTPUT,
-            peer: 0,
-            number: 0,
-        }
+        Event::new(Kind::Output, Peer::Instance(0), 0)
     );
     Ok(())
 }
@@ -98,29 +63,35 @@ fn a_recast_renames(rt: HostRuntime) -> Result<(), Fail> {
 #[test]
 fn faults_of_spoiled_parts(rt: HostRuntime) {
     let heap = rt.alloc();
-    assert_eq!(rt; fault(heap, b"poll 32 1"), placeless(33, 2));
+    assert_eq!(rt;
+        fault(heap, b"poll 32 1"),
+        Some(Fault::of_whole(Layer::Poll, Rule::Poll))
+    );
     assert_eq!(rt;
         fault(heap, b"table\n1\n.\npoll 32 1\nafter"),
-        placeless(13, 1)
+        Some(Fault::of_whole(Layer::Table, Rule::Sum))
     );
     assert_eq!(rt;
         fault(heap, b"poll 32 1\ntable\n1\n.\nafter"),
-        placeless(33, 2)
+        Some(Fault::of_whole(Layer::Poll, Rule::Poll))
     );
     assert_eq!(rt;
         fault(heap, b"table\n1\n.\npoll 32 1\nbeside"),
-        placeless(13, 1)
+        Some(Fault::of_whole(Layer::Table, Rule::Sum))
     );
     assert_eq!(rt;
         fault(heap, b"poll 1 1\npoll 32 1\nbeside"),
-        placeless(33, 2)
+        Some(Fault::of_whole(Layer::Poll, Rule::Poll))
     );
     assert_eq!(rt;
         fault(heap, b"poll 15 1\npoll 16 1\nbeside"),
-        placeless(31, 4)
+        Some(Fault::of_whole(Layer::Beside, Rule::Limits))
     );
     assert_eq!(rt; fault(heap, b"poll 15 1\npoll 15 1\nbeside"), None);
-    assert_eq!(rt; fault(heap, b"poll 1 1\nrecast"), placeless(32, 5));
+    assert_eq!(rt;
+        fault(heap, b"poll 1 1\nrecast"),
+        Some(Fault::of_whole(Layer::Recast, Rule::Permutation))
+    );
     assert_eq!(rt; fault(heap, b"table\n.\nrecast"), None);
 }
 
@@ -156,6 +127,6 @@ fn a_line_that_cannot_be_read(rt: HostRuntime) {
         (b"\n\n", 3),
     ];
     for (text, line) in cases {
-        assert_eq!(rt; unreadable(rt.alloc(), text), line);
+        assert_eq!(rt; read_pile(rt.alloc(), text).err(), Some(Unread::Line(line)));
     }
 }

@@ -1,5 +1,5 @@
 -- Reading names one by one into a table of zeros.
-use Rattle.std.proofs.Common.{◌≡◌, ℕ, zero, suc, ◌+◌, List, [], ◌∷◌, ◌++◌, length, set, replicate, Some, None, Option, sym, refl, ap, ◌∙◌, append_assoc, arith}
+use Rattle.std.proofs.Common.{◌≡◌, ℕ, zero, suc, ◌+◌, List, [], ◌∷◌, ◌++◌, length, drop, set, replicate, Some, None, Option, sym, refl, ap, subst, ◌∙◌, append_assoc, arith}
 use Rattle.std.proofs.lemmas.List.{length_push, set_at}
 use Rattle.tabletexts.specs.Table.{number_in}
 use Rattle.piletexts.specs.Commands.{name_by, names_in}
@@ -43,8 +43,39 @@ more_at (suc room) names given f fs says xs n table count full same less is = re
 }
 
 -- one name more
-pub named_more : (names : List ℕ) (given : ℕ) (gs : List (List ℕ)) (f : List ℕ) (fs : List (List ℕ)) (says : Option (List ℕ)) (n : ℕ) →
+named_more : (names : List ℕ) (given : ℕ) (gs : List (List ℕ)) (f : List ℕ) (fs : List (List ℕ)) (says : Option (List ℕ)) (n : ℕ) →
     Named names given gs says → gs ≡ f ∷ fs → (given ≡ 32 → ⊥) → Some n ≡ number_in 255 f → Named (set names given n) (given + 1) fs says
 named_more names given gs f fs says n so cut less is =
     more_at so.room names given f fs says so.so_far n so.table so.count so.full
     (ap (λ (l : List (List ℕ)). names_by so.so_far (names_in so.room l)) (sym cut) ∙ so.same) less is
+
+-- the fields are at an end
+pub named_end : (names : List ℕ) (given : ℕ) (gs : List (List ℕ)) (says : Option (List ℕ)) → Named names given gs says → gs ≡ [] → Some names ≡ says
+named_end names given gs says so none =
+    ap Some so.table ∙ sym (ap (λ (l : List (List ℕ)). names_by so.so_far (names_in so.room l)) none) ∙ so.same
+
+module _ (names : List ℕ) (given : ℕ) (gs : List (List ℕ)) (f : List ℕ) (fs : List (List ℕ)) (says : Option (List ℕ)) (so : Named names given gs says) (cut : gs ≡ f ∷ fs) where
+  left : names_by so.so_far (names_in so.room (f ∷ fs)) ≡ says
+  left = ap (λ (l : List (List ℕ)). names_by so.so_far (names_in so.room l)) (sym cut) ∙ so.same
+
+  -- a field too many
+  pub named_full : given ≡ 32 → None ≡ says
+  named_full full =
+      let none : so.room ≡ 0 = (let f = so.full in omega arith) in
+      sym (ap (λ (k : ℕ). names_by so.so_far (names_in k (f ∷ fs))) none) ∙ left
+
+  no_name : (room : ℕ) → None ≡ number_in 255 f → None ≡ names_by so.so_far (names_in room (f ∷ fs))
+  no_name zero none = refl
+  no_name (suc room) none = ap (λ (o : Option ℕ). names_by so.so_far (name_by o (names_in room fs))) none
+
+  -- a field that is no name
+  pub named_stop : None ≡ number_in 255 f → None ≡ says
+  named_stop none = no_name so.room none ∙ left
+
+-- the same, where the fields fs are read one by one
+pub named_next : (names : List ℕ) (n k j given : ℕ) (fs : List (List ℕ)) (f : List ℕ) (says : Option (List ℕ)) → Named names k (drop k fs) says → given ≡ k → j ≡ k + 1 → drop k fs ≡ f ∷ drop (k + 1) fs → (k ≡ 32 → ⊥) → Some n ≡ number_in 255 f →
+    Named (set names given n) j (drop j fs) says
+named_next names n k j given fs f says so here more cut less is =
+    subst (λ (i : ℕ). Named (set names i n) j (drop j fs) says) (sym here)
+    (subst (λ (i : ℕ). Named (set names k n) i (drop i fs) says) (sym more)
+    (named_more names k (drop k fs) f (drop (k + 1) fs) says n so cut less is))

@@ -1,6 +1,7 @@
 -- Taking the first line off a text.
 use Rattle.std.proofs.Common.{◌≡◌, ℕ, ◌<◌, true, false, cond, eqb, List, [], ◌∷◌, length, Some, None, Option, unwrap_or, sym, refl, ap, ◌∙◌, arith, Bor}
-use Rattle.tabletexts.specs.Pieces.{before, pieces, pieces_after}
+use Rattle.std.specs.List.{onto_first}
+use Rattle.tabletexts.specs.Pieces.{pieces, pieces_after}
 use Rattle.tabletexts.proofs.Turns.{some_piece}
 use Rattle.piletexts.specs.Lines.{closed, lines_of}
 
@@ -11,9 +12,9 @@ single [] [] h e = absurd (omega arith)
 single (b ∷ bs) [] h e =
     let q = some_piece 10 bs in
     let more : pieces 10 bs ≡ q.0 ∷ q.1 = q.2 in
-    elim (eqb b 10) as (λ t. cond t ([] ∷ pieces 10 bs) (before b (pieces 10 bs)) ≡ [] ∷ [] → closed ([] ∷ []) ≡ [] ∷ []) [
+    elim (eqb b 10) as (λ t. cond t ([] ∷ pieces 10 bs) (onto_first b (pieces 10 bs)) ≡ [] ∷ [] → closed ([] ∷ []) ≡ [] ∷ []) [
       | true ↦ λ f. absurd (let z : ◌≡◌ {A = ℕ} 0 1 = cc in omega arith)
-      | false ↦ λ f. absurd (let g = ap (before b) more in let z : ◌≡◌ {A = ℕ} 0 1 = cc in omega arith)
+      | false ↦ λ f. absurd (let g = ap (onto_first b) more in let z : ◌≡◌ {A = ℕ} 0 1 = cc in omega arith)
     ] e
 
 closed_more : (p : List ℕ) (text : List ℕ) → closed (p ∷ pieces 10 text) ≡ p ∷ lines_of text

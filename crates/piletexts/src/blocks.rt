@@ -1,14 +1,21 @@
-ghost use Rattle.std.specs.Prelude.{[], vec_items};
+ghost use Rattle.std.specs.Prelude.{◌≡◌, [], codes, vec_items};
+ghost use Rattle.std.specs.Str.{bytes_eq};
 ghost use Rattle.tabletexts.specs.Outcome.{Answers};
 ghost use Rattle.tabletexts.specs.Table.{held, lengths_on};
 ghost use Rattle.piletexts.specs.Blocks.{events_until, on_line, table_until, up_to};
 ghost use Rattle.piletexts.specs.Lines.{lines_of};
 
 use crate::lines::Lines;
-use crate::words::same;
 use charts::Event;
 use std::alloc::Global;
 use tabletexts::{TableText, Unread, read_event, read_lengths};
+
+// Whether the line ends a table.
+fn is_end(line: &[u8]) -> bool
+    ensures { result ≡ bytes_eq line.now (codes ".") }
+{
+    line == b".".as_slice()
+}
 
 // The events on the lines up to the end of the table.
 fn read_events<'t>(heap: Global, lines: &mut Lines<'t>) -> Result<Vec<Event>, Unread>
@@ -16,7 +23,7 @@ fn read_events<'t>(heap: Global, lines: &mut Lines<'t>) -> Result<Vec<Event>, Un
 {
     let mut events = Vec::new(heap);
     while let Some(line) = lines.next() {
-        if same(line, b".") {
+        if is_end(line) {
             return Ok(events);
         }
         if !line.is_empty() {
@@ -47,7 +54,7 @@ pub fn read_table<'t>(heap: Global, lines: &mut Lines<'t>) -> Result<TableText, 
     let Some(line) = lines.next() else {
         return Err(Unread::Line(lines.number() + 1));
     };
-    if same(line, b".") {
+    if is_end(line) {
         return Ok(TableText {
             lengths: Vec::new(heap),
             events: Vec::new(heap),

@@ -1,4 +1,5 @@
 ghost use Rattle.std.specs.Prelude.{◌≡◌, ◌+◌, ◌^◌, ◌<◌, [], ◌∷◌, length, MatchOption};
+ghost use Rattle.std.specs.Iterator.{item_count};
 ghost use Rattle.piletexts.specs.Lines.{lines_of};
 
 use tabletexts::cut;
@@ -28,11 +29,17 @@ impl<'t> Lines<'t> {
     {
         self.number
     }
+}
+
+impl<'t> Iterator for Lines<'t> {
+    type Item = &'t [u8];
+
+    ghost next_gives = { λ s r t. MatchOption r ((lines_of s.rest.now ≡ []) × (t ≡ s)) (λ line. (lines_of s.rest.now ≡ line.now ∷ lines_of t.rest.now) × (t.number ≡ s.number + 1)) };
+
+    ghost remaining = { item_count (λ s. lines_of s.rest.now) };
 
     // The next line, none where there are no more.
-    pub fn next(&mut self) -> Option<&'t [u8]>
-        ensures { MatchOption result ((lines_of self.old.rest.now ≡ []) × (self.new ≡ self.old)) (λ line. (lines_of self.old.rest.now ≡ line.now ∷ lines_of self.new.rest.now) × (self.new.number ≡ self.old.number + 1)) }
-    {
+    fn next(&mut self) -> Option<&'t [u8]> {
         if self.rest.is_empty() {
             return None;
         }

@@ -1,5 +1,5 @@
 // What a line does to a stack of charts.
-#[derive(Clone, Copy)]
+#[derive(Clone, Copy, PartialEq, Eq, Debug)]
 pub enum Command {
     // pushes the table on the lines that follow, up to a line `.`
     Table,

@@ -2,16 +2,18 @@
 use Rattle.std.proofs.Common.{◌≡◌, ℕ, ◌+◌, ◌-◌, ◌*◌, ◌^◌, ◌<◌, ◌≤◌, true, false, eqb, leb, List, [], ◌∷◌, ◌++◌, map, length, Some, None, Ok, decimal, Result, sym, refl, ap, ◌∙◌, subst, arith, length-append, rules}
 use Rattle.std.specs.List.{AllByRecursion}
 use Rattle.std.specs.Str.{all_ascii_digits}
-use Rattle.std.proofs.lemmas.Bool.{and_parts, cond-true, cond-false, le-leb, ne_eqb, both_ways}
+use Rattle.std.proofs.lemmas.Bool.{and_parts, cond-true, eq-eqb, le-leb, ne_eqb, both_ways}
+use Rattle.std.proofs.lemmas.List.Elements.{All-from_recursion}
+use Rattle.std.proofs.lemmas.List.Splits.{slice_split_at, slice_split_none}
 use Rattle.std.proofs.lemmas.Str.Parse.{IsNumeralModel, numerals_by_fold, tells_all_ascii_digits}
 use Rattle.std.proofs.lemmas.Fmt.{decimal_nonempty, digits_decimal, digits_value-decimal}
 use Rattle.charts.specs.declared.parts.Event.{Event}
-use Rattle.listings.specs.Lines.{spaced}
+use Rattle.charts.specs.Texts.{spaced}
 use Rattle.tabletexts.specs.Numeral.{is_digit, numeral_after, numeral, up_to}
 use Rattle.tabletexts.specs.Outcome.{Answers}
 use Rattle.tabletexts.specs.declared.parts.TableText.{TableText}
 use Rattle.tabletexts.specs.declared.parts.Unread.{Unread}
-use Rattle.tabletexts.specs.Pieces.{before, pieces}
+use Rattle.tabletexts.specs.Pieces.{pieces}
 use Rattle.tabletexts.specs.Table.{Table, number_in, lengths_in, lengths_on, event_in, event_on, events_from, held, lines, reading, table_on}
 use Rattle.tabletexts.specs.Written.{row, rows, written, FitsEvent, FitsTable}
 use Rattle.tabletexts.proofs.Turns.{some_line}
@@ -41,34 +43,30 @@ number_back m n small h =
 
 -- no byte is s
 abbrev Lacks : ℕ → List ℕ → Type 0
-Lacks s bs = AllByRecursion (λ b. b ≡ s → ⊥) bs
+Lacks s bs = AllByRecursion (λ b. eqb b s ≡ false) bs
 
 lacks_digits : (s : ℕ) (bs : List ℕ) → is_digit s ≡ false → all_ascii_digits bs ≡ true → Lacks s bs
 lacks_digits s [] f h = tt
 lacks_digits s (b ∷ bs) f h =
     let p = and_parts (is_digit b) (all_ascii_digits bs) h in
-    ((λ e. both_ways (is_digit s) f (ap is_digit (sym e) ∙ p.0)), lacks_digits s bs f p.1)
+    (ne_eqb b s (λ e. both_ways (is_digit s) f (ap is_digit (sym e) ∙ p.0)), lacks_digits s bs f p.1)
 
 lacks_append : (s : ℕ) (xs ys : List ℕ) → Lacks s xs → Lacks s ys → Lacks s (xs ++ ys)
 lacks_append s [] ys h k = k
 lacks_append s (x ∷ xs) ys h k = (h.0, lacks_append s xs ys h.1 k)
 
-lacks_spaced : (s : ℕ) (ws : List (List ℕ)) → (32 ≡ s → ⊥) → AllByRecursion (Lacks s) ws → Lacks s (spaced ws)
+lacks_spaced : (s : ℕ) (ws : List (List ℕ)) → eqb 32 s ≡ false → AllByRecursion (Lacks s) ws → Lacks s (spaced ws)
 lacks_spaced s [] n h = tt
 lacks_spaced s (w ∷ []) n h = h.0
 lacks_spaced s (w ∷ v ∷ vs) n h = lacks_append s w (32 ∷ spaced (v ∷ vs)) h.0 (n, lacks_spaced s (v ∷ vs) n h.1)
 
 -- a word, and what follows the byte behind it
 cut_word : (s : ℕ) (w rest : List ℕ) → Lacks s w → pieces s (w ++ (s ∷ rest)) ≡ w ∷ pieces s rest
-cut_word s [] rest h = cond-true (eqb s s) ([] ∷ pieces s rest) (before s (pieces s rest)) (search rules)
-cut_word s (b ∷ w) rest h =
-    cond-false (eqb b s) ([] ∷ pieces s (w ++ (s ∷ rest))) (before b (pieces s (w ++ (s ∷ rest)))) (ne_eqb b s h.0)
-    ∙ ap (before b) (cut_word s w rest h.1)
+cut_word s w rest h =
+    slice_split_at (λ b. eqb b s) w s rest (All-from_recursion (λ b. eqb b s ≡ false) w h) (eq-eqb s s refl)
 
 cut_last : (s : ℕ) (w : List ℕ) → Lacks s w → pieces s w ≡ w ∷ []
-cut_last s [] h = refl
-cut_last s (b ∷ w) h =
-    cond-false (eqb b s) ([] ∷ pieces s w) (before b (pieces s w)) (ne_eqb b s h.0) ∙ ap (before b) (cut_last s w h.1)
+cut_last s w h = slice_split_none (λ b. eqb b s) w (All-from_recursion (λ b. eqb b s ≡ false) w h)
 
 fields_back : (w : List ℕ) (ws : List (List ℕ)) → AllByRecursion (Lacks 32) (w ∷ ws) → pieces 32 (spaced (w ∷ ws)) ≡ w ∷ ws
 fields_back w [] h = cut_last 32 w h.0
@@ -123,13 +121,13 @@ rows_back : (k : ℕ) (es : List Event) → AllByRecursion FitsEvent es → even
 rows_back k [] h = refl
 rows_back k (e ∷ es) h =
     let kind = h.0.kind in
-    ap (events_from k) (cut_word 10 (row e) (rows es) (lacks_spaced 10 (decimal e.kind ∷ decimal e.peer ∷ decimal e.number ∷ []) (omega arith) (lacks_row 10 e refl h.0)))
+    ap (events_from k) (cut_word 10 (row e) (rows es) (lacks_spaced 10 (decimal e.kind ∷ decimal e.peer ∷ decimal e.number ∷ []) refl (lacks_row 10 e refl h.0)))
     ∙ some_line k (row e) (lines (rows es)) (spaced_some e.kind (decimal e.peer ∷ decimal e.number ∷ []) (omega arith))
     ∙ rw (event_back e h.0, rows_back (k + 1) es h.1) refl
 
 table_back : (t : Table) → FitsTable t → reading (written t) ≡ Ok t
 table_back t h =
-    ap table_on (cut_word 10 (spaced (map decimal t.lengths)) (rows t.events) (lacks_spaced 10 (map decimal t.lengths) (omega arith) (lacks_all 10 t.lengths refl h.lengths)))
+    ap table_on (cut_word 10 (spaced (map decimal t.lengths)) (rows t.events) (lacks_spaced 10 (map decimal t.lengths) refl (lacks_all 10 t.lengths refl h.lengths)))
     ∙ rw (lengths_back t.lengths h.lengths, rows_back 2 t.events h.events) refl
 
 -- what is read of a text, and so of a written table

@@ -1,28 +1,29 @@
--- Where a text is cut first.
-use Rattle.std.proofs.Common.{◌≡◌, ℕ, zero, suc, ◌+◌, ◌<◌, eqb, List, [], ◌∷◌, length, get_or, take, drop, refl, ap, ◌∙◌, add-one, arith}
-use native.Mathlib.Nat.{sub-zero}
-use Rattle.std.specs.List.{between}
-use Rattle.std.proofs.lemmas.List.{take_rest}
-use Rattle.std.proofs.lemmas.Bool.{cond-true, cond-false, eq-eqb, ne_eqb}
-use Rattle.tabletexts.specs.Pieces.{before, pieces}
+-- Where a text is cut first, by the place of its first separator.
+use Rattle.std.proofs.Common.{◌≡◌, ℕ, ◌+◌, false, not, eqb, ltb, List, [], ◌∷◌, length, take, drop, Some, None, inl, inr, sym, ap, ◌∙◌, arith}
+use Rattle.std.specs.List.{position, position_or_len}
+use Rattle.std.proofs.lemmas.List.Elements.{All-from_get_or}
+use Rattle.std.proofs.lemmas.List.Splits.{slice_split_first, slice_split_none}
+use Rattle.std.proofs.lemmas.List.Sums.{prefix_len_passes}
+use Rattle.std.proofs.lemmas.Bool.{cases_lt, cond-true, cond-false, le-ltb, lt-ltb, not-true}
+use Rattle.tabletexts.specs.Pieces.{pieces}
 
--- the first n bytes of the text are not s
-abbrev pub Without : ℕ → List ℕ → ℕ → Type 0
-Without s text n = (k : ℕ) → k < n → get_or text k 0 ≡ s → ⊥
+module _ (s : ℕ) (text : List ℕ) where
+  abbrev place : ℕ
+  place = position_or_len (λ b. eqb b s) text
 
-pub cut_none : (s : ℕ) (text : List ℕ) → Without s text (length text) → pieces s text ≡ text ∷ []
-cut_none s [] h = refl
-cut_none s (b ∷ bs) h =
-    cond-false (eqb b s) ([] ∷ pieces s bs) (before b (pieces s bs)) (ne_eqb b s (h 0 (omega arith)))
-    ∙ ap (before b) (cut_none s bs (λ k l. h (suc k) (omega arith)))
+  pub cut_none : None ≡ position (λ b. eqb b s) text → pieces s text ≡ text ∷ []
+  cut_none e =
+      elim (cases_lt place (length text)) [
+        | inl l ↦ absurd (let there = cond-true (ltb place (length text)) (Some place) None (lt-ltb place (length text) l) in let z : ◌≡◌ {A = ℕ} 0 1 = cc in omega arith)
+        | inr l ↦ slice_split_none (λ b. eqb b s) text (All-from_get_or (λ x. eqb x s ≡ false) text 0 (λ i h. not-true _ (prefix_len_passes (λ b. not (eqb b s)) text i 0 (omega arith))))
+      ]
 
-cut_first : (s : ℕ) (text : List ℕ) (i : ℕ) → Without s text i → i < length text → get_or text i 0 ≡ s → pieces s text ≡ take i text ∷ pieces s (drop (suc i) text)
-cut_first s [] i h l e = absurd (omega arith)
-cut_first s (b ∷ bs) zero h l e = cond-true (eqb b s) ([] ∷ pieces s bs) (before b (pieces s bs)) (eq-eqb b s e)
-cut_first s (b ∷ bs) (suc i) h l e =
-    cond-false (eqb b s) ([] ∷ pieces s bs) (before b (pieces s bs)) (ne_eqb b s (h 0 (omega arith)))
-    ∙ ap (before b) (cut_first s bs i (λ k l. h (suc k) (omega arith)) (omega arith) e)
-
--- the same, in the parts that the code takes
-pub cut_at : (s : ℕ) (text : List ℕ) (i : ℕ) → Without s text i → i < length text → get_or text i 0 ≡ s → pieces s text ≡ between 0 i text ∷ pieces s (between (i + 1) (length text) text)
-cut_at s text i h l e = rw (take_rest text (i + 1), sub-zero i, add-one i) (cut_first s text i h l e)
+  pub cut_some : (i : ℕ) → Some i ≡ position (λ b. eqb b s) text → pieces s text ≡ take i text ∷ pieces s (drop (i + 1) text)
+  cut_some i e =
+      elim (cases_lt place (length text)) [
+        | inl l ↦
+            let there = cond-true (ltb place (length text)) (Some place) None (lt-ltb place (length text) l) in
+            let same : i ≡ place = cc in
+            slice_split_first (λ b. eqb b s) text 0 l ∙ ap (λ n. take n text ∷ pieces s (drop (n + 1) text)) (sym same)
+        | inr l ↦ absurd (let nowhere = cond-false (ltb place (length text)) (Some place) None (le-ltb place (length text) l) in let z : ◌≡◌ {A = ℕ} 0 1 = cc in omega arith)
+      ]

@@ -1,20 +1,28 @@
 -- One turn of a loop that reads the pieces of a text, with what was read before them.
-use Rattle.std.proofs.Common.{◌≡◌, ℕ, suc, ◌+◌, ◌<◌, ◌≤◌, true, false, cond, eqb, List, [], ◌∷◌, ◌++◌, length, is_some, IfSome, Some, None, Ok, Err, Option, Result, sym, refl, ap, ◌∙◌, append_assoc, arith, Bor}
-use Rattle.std.proofs.lemmas.List.{nil_from_length}
+use Rattle.std.proofs.Common.{◌≡◌, ℕ, ◌+◌, ◌<◌, true, false, cond, eqb, List, [], ◌∷◌, ◌++◌, length, get_or, drop, is_some, Some, None, Ok, Err, Option, Result, sym, refl, ap, ◌∙◌, append_assoc, append-nil, arith, Bor}
+use Rattle.std.specs.List.{enumerate_from, onto_first}
 use Rattle.std.specs.Option.{ok_or}
+use Rattle.std.proofs.lemmas.List.{drop_all, drop_more, nil_from_length}
+use Rattle.std.proofs.lemmas.List.FromFn.{get_or-enumerate_from, length-enumerate_from}
 use Rattle.tabletexts.specs.Outcome.{then}
-use Rattle.tabletexts.specs.Pieces.{before, pieces, pieces_after}
+use Rattle.tabletexts.specs.Pieces.{pieces, pieces_after}
 use Rattle.tabletexts.specs.Table.{number_in, lengths_in, event_in, event_on, events_from}
 use Rattle.charts.specs.declared.parts.Event.{Event}
 
--- more than the length of what is left, 0 where nothing is
-abbrev pub left : Option (Bor (List ℕ)) → ℕ
-left None = 0
-left (Some rest) = suc (length rest.now)
+-- p is the next piece, behind k of them
+pub record Next (ps : List (List ℕ)) (k : ℕ) (p : List ℕ) : Type 0 where
+  pub is : drop k ps ≡ p ∷ drop (k + 1) ps
 
-pub left_le : (n : ℕ) (o : Option (Bor (List ℕ))) → IfSome o (λ rest. length rest.now < n) → left o ≤ n
-left_le n None h = omega arith
-left_le n (Some rest) h = h
+pub next_piece : (ps : List (List ℕ)) (k : ℕ) (p : List ℕ) → (k < length ps) × (p ≡ get_or ps k p) → Next ps k p
+next_piece ps k p turn = record { is = drop_more ps k p turn.0 ∙ ap (λ q. q ∷ drop (k + 1) ps) (sym turn.1) }
+
+-- the same of pieces with their indices
+pub next_numbered : (ps : List (List ℕ)) (k i : ℕ) (p : List ℕ) → (k < length (enumerate_from 0 ps)) × (◌≡◌ {A = ℕ × List ℕ} (i, p) (get_or (enumerate_from 0 ps) k (i, p))) → (i ≡ k) × Next ps k p
+next_numbered ps k i p turn =
+    let within : k < length ps = (let l = turn.0 in omega (arith, length-enumerate_from 0 ps)) in
+    let at = turn.1 ∙ get_or-enumerate_from 0 ps k (i, p) within in
+    let index : i ≡ 0 + k = ap (λ (q : ℕ × List ℕ). q.0) at in
+    (omega arith, next_piece ps k p (within, ap (λ (q : ℕ × List ℕ). q.1) at))
 
 -- what was read, before what is still to be read
 abbrev pub onto : {X : Type 0} → List X → Result (List X) ℕ → Result (List X) ℕ
@@ -24,33 +32,75 @@ onto_more : {X : Type 0} (xs : List X) (x : X) (r : Result (List X) ℕ) → ont
 onto_more xs x (Ok ys) = ap Ok (sym (append_assoc xs (x ∷ []) ys))
 onto_more xs x (Err n) = refl
 
--- one more field of the first line
-pub lengths_more : (says : Result (List ℕ) ℕ) (xs : List ℕ) (x : ℕ) (ys : List ℕ) (f : List ℕ) (fs gs : List (List ℕ)) → onto xs (lengths_in gs) ≡ says → gs ≡ f ∷ fs → Some x ≡ number_in 65535 f → ys ≡ xs ++ x ∷ [] → onto ys (lengths_in fs) ≡ says
-lengths_more says xs x ys f fs gs inv cut number push =
-    rw push (sym (onto_more xs x (lengths_in fs)) ∙ ap (λ o. onto xs (then ◌∷◌ (ok_or o 1) (lengths_in fs))) number ∙ ap (λ l. onto xs (lengths_in l)) (sym cut) ∙ inv)
+-- the fields fs of the first line, of which k were read as xs
+module _ (says : Result (List ℕ) ℕ) (xs : List ℕ) (fs : List (List ℕ)) (k : ℕ) (inv : onto xs (lengths_in (drop k fs)) ≡ says) where
+  pub lengths_end : k ≡ length fs → says ≡ Ok xs
+  lengths_end e =
+      sym inv ∙ ap (λ gs. onto xs (lengths_in gs)) (drop_all k fs (omega arith)) ∙ ap Ok (append-nil xs)
+
+  -- the next field
+  module _ (f : List ℕ) (next : Next fs k f) where
+    pub lengths_stop : None ≡ number_in 65535 f → says ≡ Err 1
+    lengths_stop none =
+        sym inv ∙ ap (λ gs. onto xs (lengths_in gs)) next.is ∙ ap (λ o. onto xs (then ◌∷◌ (ok_or o 1) (lengths_in (drop (k + 1) fs)))) (sym none)
+
+    pub lengths_more : (x : ℕ) (ys : List ℕ) (n : ℕ) → Some x ≡ number_in 65535 f → ys ≡ xs ++ x ∷ [] → n ≡ k + 1 → onto ys (lengths_in (drop n fs)) ≡ says
+    lengths_more x ys n number push more =
+        ap (λ m. onto ys (lengths_in (drop m fs))) more
+        ∙ ap (λ zs. onto zs (lengths_in (drop (k + 1) fs))) push
+        ∙ sym (onto_more xs x (lengths_in (drop (k + 1) fs)))
+        ∙ ap (λ o. onto xs (then ◌∷◌ (ok_or o 1) (lengths_in (drop (k + 1) fs)))) number
+        ∙ ap (λ gs. onto xs (lengths_in gs)) (sym next.is)
+        ∙ inv
 
 -- a line that is not empty has an event
 pub some_line : (n : ℕ) (l : List ℕ) (ls : List (List ℕ)) → 0 < length l → events_from n (l ∷ ls) ≡ then ◌∷◌ (ok_or (event_on l) n) (events_from (n + 1) ls)
 some_line n [] ls h = absurd (omega arith)
 some_line n (b ∷ bs) ls h = refl
 
-module _ (says : Result (List Event) ℕ) (xs ys : List Event) (n : ℕ) (l : List ℕ) (ls ks : List (List ℕ)) (inv : onto xs (events_from n ks) ≡ says) (cut : ks ≡ l ∷ ls) where
-  -- one more line, with an event
-  pub events_more : (e : Event) → 0 < length l → Some e ≡ event_on l → ys ≡ xs ++ e ∷ [] → onto ys (events_from (n + 1) ls) ≡ says
-  events_more e some event push =
-      rw push (sym (onto_more xs e (events_from (n + 1) ls)) ∙ ap (λ o. onto xs (then ◌∷◌ (ok_or o n) (events_from (n + 1) ls))) event ∙ ap (onto xs) (sym (some_line n l ls some)) ∙ ap (λ k. onto xs (events_from n k)) (sym cut) ∙ inv)
+-- the lines ls, the first of which is the second of the text, and of which k were read as es
+module _ (says : Result (List Event) ℕ) (es : List Event) (ls : List (List ℕ)) (k : ℕ) (inv : onto es (events_from (k + 2) (drop k ls)) ≡ says) where
+  pub events_end : k ≡ length ls → says ≡ Ok es
+  events_end e =
+      sym inv ∙ ap (λ ks. onto es (events_from (k + 2) ks)) (drop_all k ls (omega arith)) ∙ ap Ok (append-nil es)
 
-  -- one more line, an empty one
-  pub events_pass : length l ≡ 0 → ys ≡ xs → onto ys (events_from (n + 1) ls) ≡ says
-  events_pass none same = rw same (ap (λ k. onto xs (events_from n k)) (sym (cut ∙ ap (λ k. k ∷ ls) (nil_from_length l none))) ∙ inv)
+  -- the next line
+  module _ (l : List ℕ) (next : Next ls k l) where
+    later : (fs : List Event) (n : ℕ) → n ≡ k + 1 → onto fs (events_from (n + 2) (drop n ls)) ≡ onto fs (events_from (k + 2 + 1) (drop (k + 1) ls))
+    later fs n more =
+        ap (λ (m : ℕ). onto fs (events_from (m + 2) (drop m ls))) more
+        ∙ ap (λ (m : ℕ). onto fs (events_from m (drop (k + 1) ls))) (let same : k + 1 + 2 ≡ k + 2 + 1 = omega arith in same)
+
+    pub events_stop : 0 < length l → None ≡ event_on l → says ≡ Err (k + 2)
+    events_stop some none =
+        sym inv
+        ∙ ap (λ ks. onto es (events_from (k + 2) ks)) next.is
+        ∙ ap (onto es) (some_line (k + 2) l (drop (k + 1) ls) some)
+        ∙ ap (λ o. onto es (then ◌∷◌ (ok_or o (k + 2)) (events_from (k + 2 + 1) (drop (k + 1) ls)))) (sym none)
+
+    pub events_more : (e : Event) (fs : List Event) (n : ℕ) → 0 < length l → Some e ≡ event_on l → fs ≡ es ++ e ∷ [] → n ≡ k + 1 → onto fs (events_from (n + 2) (drop n ls)) ≡ says
+    events_more e fs n some event push more =
+        later fs n more
+        ∙ ap (λ gs. onto gs (events_from (k + 2 + 1) (drop (k + 1) ls))) push
+        ∙ sym (onto_more es e (events_from (k + 2 + 1) (drop (k + 1) ls)))
+        ∙ ap (λ o. onto es (then ◌∷◌ (ok_or o (k + 2)) (events_from (k + 2 + 1) (drop (k + 1) ls)))) event
+        ∙ ap (onto es) (sym (some_line (k + 2) l (drop (k + 1) ls) some))
+        ∙ ap (λ ks. onto es (events_from (k + 2) ks)) (sym next.is)
+        ∙ inv
+
+    pub events_pass : (n : ℕ) → length l ≡ 0 → n ≡ k + 1 → onto es (events_from (n + 2) (drop n ls)) ≡ says
+    events_pass n none more =
+        later es n more
+        ∙ ap (λ ks. onto es (events_from (k + 2) ks)) (sym (next.is ∙ ap (λ q. q ∷ drop (k + 1) ls) (nil_from_length l none)))
+        ∙ inv
 
 -- a text has a piece at least
 pub some_piece : (s : ℕ) (text : List ℕ) → (p : List ℕ) × (ps : List (List ℕ)) × (pieces s text ≡ p ∷ ps)
 some_piece s [] = ([], [], refl)
 some_piece s (b ∷ bs) =
-    elim (eqb b s) as (λ t. (p : List ℕ) × (ps : List (List ℕ)) × (cond t ([] ∷ pieces s bs) (before b (pieces s bs)) ≡ p ∷ ps)) [
+    elim (eqb b s) as (λ t. (p : List ℕ) × (ps : List (List ℕ)) × (cond t ([] ∷ pieces s bs) (onto_first b (pieces s bs)) ≡ p ∷ ps)) [
       | true ↦ ([], pieces s bs, refl)
-      | false ↦ let h = some_piece s bs in (b ∷ h.0, h.1, ap (before b) h.2)
+      | false ↦ let h = some_piece s bs in (b ∷ h.0, h.1, ap (onto_first b) h.2)
     ]
 
 -- four fields or more are no event

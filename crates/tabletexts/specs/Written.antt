@@ -2,7 +2,7 @@
 use Rattle.std.specs.Prelude.{ℕ, ◌<◌, List, [], ◌∷◌, ◌++◌, map, decimal}
 use Rattle.std.specs.List.{AllByRecursion}
 use Rattle.charts.specs.declared.parts.Event.{Event}
-use Rattle.listings.specs.Lines.{spaced}
+use Rattle.charts.specs.Texts.{spaced}
 use Rattle.tabletexts.specs.Table.{Table}
 
 -- an event's line

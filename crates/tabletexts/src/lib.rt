@@ -7,4 +7,4 @@ mod reading;
 mod tests;
 
 pub use parts::{TableText, Unread};
-pub use reading::{cut, read, read_event, read_lengths, read_number};
+pub use reading::{cut, read, read_byte, read_event, read_lengths, read_number};

@@ -12,7 +12,7 @@ pub struct TableText {
 }
 
 // Why a text was not read.
-#[derive(Debug, Drop)]
+#[derive(Clone, Copy, PartialEq, Eq, Debug)]
 pub enum Unread {
     // the first line that cannot be read, counted from 1
     Line(usize),

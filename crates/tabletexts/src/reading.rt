@@ -13,12 +13,10 @@ pub fn cut(text: &[u8], separator: u8) -> (&[u8], Option<&[u8]>)
     ensures value { pieces separator text.now ≡ result.0.now ∷ pieces_after separator result.1 }
     ensures less { IfSome result.1 (λ rest. length rest.now < length text.now) }
 {
-    for (i, b) in text.iter().enumerate() {
-        if *b == separator {
-            return (&text[0..i], Some(&text[i + 1..]));
-        }
+    match text.iter().position(|b| *b == separator) {
+        Some(i) => (&text[..i], Some(&text[i + 1..])),
+        None => (text, None),
     }
-    (text, None)
 }
 
 // The number that the field writes in decimal, where it is at most `most`.
@@ -39,7 +37,14 @@ pub fn read_number(field: &[u8], most: u16) -> Option<u16>
             return None;
         }
     }
-    Some(value as u16)
+    u16::try_from(value).ok()
+}
+
+// The same for a number of 8 bits.
+pub fn read_byte(field: &[u8]) -> Option<u8>
+    ensures { result ≡ number_in 255 field.now }
+{
+    u8::try_from(read_number(field, u16::from(u8::MAX))?).ok()
 }
 
 // The lengths on the first line.
@@ -50,14 +55,11 @@ pub fn read_lengths(heap: Global, line: &[u8]) -> Result<Vec<u16>, Unread>
     if line.is_empty() {
         return Ok(lengths);
     }
-    let mut rest = Some(line);
-    while let Some(fields) = rest {
-        let (field, after) = cut(fields, b' ');
+    for field in line.split(|b| *b == b' ') {
         let Some(length) = read_number(field, u16::MAX) else {
             return Err(Unread::Line(1));
         };
         lengths.push(length)?;
-        rest = after;
     }
     Ok(lengths)
 }
@@ -73,8 +75,8 @@ pub fn read_event(line: &[u8]) -> Option<Event>
         return None;
     }
     Some(Event {
-        kind: read_number(kind, u8::MAX as u16)? as u8,
-        peer: read_number(peer, u8::MAX as u16)? as u8,
+        kind: read_byte(kind)?,
+        peer: read_byte(peer)?,
         number: read_number(number, u16::MAX)?,
     })
 }
@@ -84,18 +86,13 @@ fn read_events(heap: Global, text: &[u8]) -> Result<Vec<Event>, Unread>
     ensures { Answers vec_items (events_from 2 (lines text.now)) result }
 {
     let mut events = Vec::new(heap);
-    let mut number = 2;
-    let mut rest = Some(text);
-    while let Some(lines) = rest {
-        let (line, after) = cut(lines, b'\n');
+    for (i, line) in text.split(|b| *b == b'\n').enumerate() {
         if !line.is_empty() {
             let Some(event) = read_event(line) else {
-                return Err(Unread::Line(number));
+                return Err(Unread::Line(i + 2));
             };
             events.push(event)?;
         }
-        number += 1;
-        rest = after;
     }
     Ok(events)
 }

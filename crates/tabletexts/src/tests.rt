@@ -1,15 +1,6 @@
-use crate::{Unread, read};
-use charts::{ACTION, ENVIRONMENT, Event, OUTPUT};
-use std::alloc::Global;
+use crate::{Unread, read, read_byte};
+use charts::{Event, Kind, Peer};
 use std::test::Fail;
-
-// The number of the line that cannot be read, 0 where there is none.
-fn unreadable(heap: Global, text: &[u8]) -> usize {
-    match read(heap, text) {
-        Err(Unread::Line(line)) => line,
-        _ => 0,
-    }
-}
 
 #[test]
 fn an_empty_text_is_an_empty_table(rt: HostRuntime) -> Result<(), Fail> {
@@ -27,16 +18,8 @@ fn a_table_is_read(rt: HostRuntime) -> Result<(), Fail> {
     let table = read(rt.alloc(), b"1 0 65535\n1 255 17\n\n03 0 0065535")?;
     assert_eq!(rt; table.lengths.as_slice(), [1, 0, 65535].as_slice());
     let events = [
-        Event {
-            kind: OUTPUT,
-            peer: ENVIRONMENT,
-            number: 17,
-        },
-        Event {
-            kind: ACTION,
-            peer: 0,
-            number: 65535,
-        },
+        Event::new(Kind::Output, Peer::Environment, 17),
+        Event::new(Kind::Action, Peer::Instance(0), 65535),
     ];
     assert_eq!(rt; table.events.as_slice(), events.as_slice());
     Ok(())
@@ -60,6 +43,12 @@ fn the_first_unreadable_line_is_told(rt: HostRuntime) {
         (b"2\n1\t0 1\n", 2),
     ];
     for (text, line) in cases {
-        assert_eq!(rt; unreadable(rt.alloc(), text), line);
+        assert_eq!(rt; read(rt.alloc(), text).err(), Some(Unread::Line(line)));
     }
+}
+
+#[test]
+fn a_byte_is_at_most_255(rt: HostRuntime) {
+    assert_eq!(rt; read_byte(b"0255"), Some(255));
+    assert_eq!(rt; read_byte(b"256"), None);
 }

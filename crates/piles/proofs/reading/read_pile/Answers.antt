@@ -7,7 +7,7 @@ use Rattle.piles.proofs.reading.read_pile.Goals as goal
 
 pub returns-in_default-read_command : goal.returns-in_default-read_command
 returns-in_default-read_command c =
-    let took = c.in-Some.ensures in
+    let took = c.in-Some.ensures.steps in
     c.loop-line.invariant (Err c.number.result)
     (line_unknown (stack_of (vec_items c.loop-line.pile.charts)) c.loop-line.lines.number c.next.new.self.number
     (lines_of c.loop-line.lines.rest.now) (lines_of c.next.new.self.rest.now) c.in-Some.line.now took.0 took.1
@@ -15,7 +15,7 @@ returns-in_default-read_command c =
 
 pub loop-line-smaller-in-Continue-1 : goal.loop-line-smaller-in-Continue-1
 loop-line-smaller-in-Continue-1 c =
-    let took = c.in-Some.ensures in
+    let took = c.in-Some.ensures.steps in
     let fewer = applied_leaves c.in-Some-read_command.command
     (standing (stack_of (vec_items c.loop-line.pile.charts)) c.next.new.self.number (lines_of c.next.new.self.rest.now))
     (standing (stack_of (vec_items c.apply.new.self.charts)) c.apply.new.lines.number (lines_of c.apply.new.lines.rest.now))
@@ -24,7 +24,7 @@ loop-line-smaller-in-Continue-1 c =
 
 pub loop-line-preserved-in-Continue-1 : goal.loop-line-preserved-in-Continue-1
 loop-line-preserved-in-Continue-1 c o p =
-    let took = c.in-Some.ensures in
+    let took = c.in-Some.ensures.steps in
     c.loop-line.invariant o
     (line_followed (stack_of (vec_items c.loop-line.pile.charts)) c.loop-line.lines.number c.next.new.self.number
     (lines_of c.loop-line.lines.rest.now) (lines_of c.next.new.self.rest.now) c.in-Some.line.now took.0 took.1
@@ -34,7 +34,7 @@ loop-line-preserved-in-Continue-1 c o p =
 
 pub returns-in_err-apply : goal.returns-in_err-apply
 returns-in_err-apply c =
-    let took = c.in-Some.ensures in
+    let took = c.in-Some.ensures.steps in
     line_told (stack_of (vec_items c.loop-line.pile.charts)) c.loop-line.lines.number c.next.new.self.number
     (lines_of c.loop-line.lines.rest.now) (lines_of c.next.new.self.rest.now) c.in-Some.line.now took.0 took.1
     c.in-Some-read_command.command c.in-Some-read_command.ensures
@@ -44,7 +44,7 @@ returns-in_err-apply c =
 
 pub loop-line-preserved : goal.loop-line-preserved
 loop-line-preserved c o p =
-    let took = c.in-Some.ensures in
+    let took = c.in-Some.ensures.steps in
     c.loop-line.invariant o
     (line_passed (stack_of (vec_items c.loop-line.pile.charts)) c.loop-line.lines.number c.next.new.self.number
     (lines_of c.loop-line.lines.rest.now) (lines_of c.next.new.self.rest.now) c.in-Some.line.now took.0 took.1
@@ -52,7 +52,7 @@ loop-line-preserved c o p =
 
 pub returns-then-is_none : goal.returns-then-is_none
 returns-then-is_none c =
-    let done = c.in_default.ensures in
+    let done = c.in_default.ensures.steps in
     c.loop-line.invariant (Err (c.number-then-is_none.result + 1))
     (ends_empty (stack_of (vec_items c.loop-line.pile.charts)) c.top.result c.loop-line.lines.number c.number-then-is_none.result
     (lines_of c.loop-line.lines.rest.now) done.0 (c.number-then-is_none.ensures.value ∙ ap (λ x. x.number) done.1) c.top.ensures c.if-is_none.ensures)
@@ -61,4 +61,4 @@ pub returns : goal.returns
 returns c =
     c.loop-line.invariant (Ok (stack_of (vec_items c.loop-line.pile.charts)))
     (ends_full (stack_of (vec_items c.loop-line.pile.charts)) c.top.result c.loop-line.lines.number (lines_of c.loop-line.lines.rest.now)
-    c.in_default.ensures.0 c.top.ensures c.if-is_none.ensures)
+    c.in_default.ensures.steps.0 c.top.ensures c.if-is_none.ensures)

@@ -1,7 +1,11 @@
-use Rattle.std.proofs.Common.{vec_items, ap, ◌∙◌}
-use Rattle.piles.specs.Stack.{stack_of}
-use Rattle.piles.proofs.Stacking.{stack_push}
+use Rattle.std.proofs.Common.{Result, subst, sym}
+use Rattle.flats.specs.declared.flat.Flat.{Flat}
+use Rattle.tabletexts.specs.declared.parts.Unread.{Unread}
+use Rattle.piles.specs.Stack.{Popped, stack_of}
+use Rattle.piles.proofs.Stacking.{popped}
 use Rattle.piles.proofs.pile.Pile.pop.Goals as goal
 
-pub returns-in-Some : goal.returns-in-Some
-returns-in-Some c = ap stack_of c.in-Some.ensures.items ∙ stack_push (vec_items c.pop.new.self) c.in-Some.chart
+pub returns : goal.returns
+returns c =
+    subst (λ (r : Result Flat Unread). Popped c.args.line (stack_of c.args.self.now.charts.items) r (stack_of c.pop.new.self.items)) (sym c.ok_or.ensures.value)
+    (popped c.args.self.now.charts c.pop.new.self c.pop.result c.args.line c.pop.ensures.items c.pop.ensures.cases)
