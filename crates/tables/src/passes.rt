@@ -77,8 +77,7 @@ impl Layout<'_, '_> {
         requires { p < length self.now.events.now }
         ensures { result ≡ joins self.now.lengths.now self.now.events.now p i (instance_of self.now.lengths.now k) }
     {
-        self.locate(p).instance == i
-            && usize::from(self.events[p].peer) == self.locate(k).instance
+        self.locate(p).instance == i && usize::from(self.events[p].peer) == self.locate(k).instance
     }
 
     // Whether event k, e, has its match, if it is of a message: with the environment, none; else the other end on its peer.
