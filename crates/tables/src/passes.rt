@@ -26,6 +26,7 @@ fn check_form(width: usize, e: &Event) -> Result<(), Rule>
     Ok(())
 }
 
+// `map_err` with `?` in the passes was tried, and the proof didn't close: nothing is known of what a closure over `blame` answers.
 impl Layout<'_, '_> {
     // The events one by one for their form.
     fn check_forms(&self) -> Result<(), Fault>
