@@ -1,14 +1,13 @@
 -- The places of messages, as a table's events are read one by one.
-use Rattle.std.proofs.Common.{◌≡◌, ℕ, ◌+◌, ◌<◌, ◌≤◌, ◌≢◌, Bool, true, false, cond, not, ◌&&◌, ◌||◌, eqb, ltb, leb, List, length, get_or, Some, None, Option, sym, refl, ap, ◌∙◌, inl, inr, arith}
-use Rattle.std.proofs.lemmas.Bool.{lt-ltb, le-ltb, cases_lt, cases_eq, cond-true, cond-false, lt-leb, or_from, and_from, not_from_true, eq-eqb, ne_eqb}
+use Rattle.std.proofs.Common.{◌≡◌, ℕ, ◌+◌, ◌<◌, ◌≤◌, ◌≢◌, Bool, false, cond, ◌&&◌, eqb, ltb, List, length, get_or, Some, None, Option, sym, refl, ap, ◌∙◌, inl, inr, arith}
+use Rattle.std.proofs.lemmas.Bool.{lt-ltb, le-ltb, cases_lt, cases_eq, cond-true, cond-false, and_from, eq-eqb, ne_eqb}
 use Rattle.std.specs.Option.{is_some}
 use Rattle.charts.specs.declared.parts.Event.{Event}
-use Rattle.charts.specs.Events.{no_event, output, input, Message, is_message}
-use Rattle.charts.proofs.Messages.{message_yes}
-use Rattle.checks.specs.Rules.{first_place, not_repeated, well_formed}
-use Rattle.checks.proofs.Chosen.{some_none, some_unless}
+use Rattle.charts.specs.Events.{no_event, output, input}
+use Rattle.checks.specs.Rules.{first_place, well_formed}
+use Rattle.checks.proofs.Chosen.{some_none}
 use Rattle.checks.proofs.Exact.{first_kind, first_before}
-use Rattle.checks.proofs.Passed.{at_place, formed_from, single_none}
+use Rattle.checks.proofs.Passed.{at_place, formed_from}
 use Rattle.messages.specs.declared.ends.End.{End}
 use Rattle.messages.specs.declared.ends.End.TheVariants.{Output, Input}
 use Rattle.messages.specs.declared.places.MessagePlaces.{MessagePlaces}
@@ -23,10 +22,6 @@ module _ (es : List Event) (k a m : ℕ) where
 
   pub seen_no : k ≤ first_place a m es → seen es k a m ≡ None
   seen_no h = cond-false (ltb (first_place a m es) k) (Some (first_place a m es)) None (le-ltb (first_place a m es) k h)
-
-  -- a place that is noted is one before k
-  noted : (p : ℕ) → seen es k a m ≡ Some p → first_place a m es < k
-  noted p s = elim (cases_lt (first_place a m es) k) [ inl h ↦ h | inr h ↦ some_none p (sym s ∙ seen_no h) ]
 
   -- none is noted: the first one does not come before k
   fresh : seen es k a m ≡ None → k ≤ first_place a m es
@@ -60,39 +55,11 @@ pub small_number : (ns : List ℕ) (es : List Event) (k : ℕ) → misformed ns 
 small_number ns es k s h =
     let f = (formed_from (length ns) k (get_or es k no_event) (at_place ns es (well_formed (length ns)) s k h)).number in omega arith
 
-message_of : (e : Event) (end : End) → e.kind ≡ kind_of end → Message e
-message_of e Output is = inl is
-message_of e Input is = inr is
-
 pub unnoted : (o : Option ℕ) → false ≡ is_some o → o ≡ None
 unnoted (Some p) t = cc
 unnoted None t = refl
 
-pub seen_start : (es : List Event) (places : MessagePlaces) → ((end : End) (m : ℕ) → place_of places end m ≡ None) → Seen es 0 places
-seen_start es places empty end m = empty end m ∙ sym (seen_no es 0 (kind_of end) m (omega arith))
-
 module _ (es : List Event) (k : ℕ) (places : MessagePlaces) (s : Seen es k places) where
-  -- an event of a kind and number that are noted, and one of a kind and number that are not
-  module _ (end : End) (is : (get_or es k no_event).kind ≡ kind_of end) where
-    found : place_of places end (get_or es k no_event).number ≡ seen es k (get_or es k no_event).kind (get_or es k no_event).number
-    found = s end (get_or es k no_event).number ∙ ap (λ (a : ℕ). seen es k a (get_or es k no_event).number) (sym is)
-
-    of_message : Message (get_or es k no_event)
-    of_message = message_of (get_or es k no_event) end is
-
-    pub second : (o : Option ℕ) → o ≡ place_of places end (get_or es k no_event).number → true ≡ is_some o → not_repeated es k (get_or es k no_event) ≡ Some 17
-    second (Some p) f t =
-        let e = get_or es k no_event in
-        let l = noted es k e.kind e.number p (sym found ∙ sym f) in
-        some_unless (not (is_message e) || leb k (first_place e.kind e.number es)) 17
-        (or_from (not (is_message e)) (leb k (first_place e.kind e.number es)) (not_from_true (is_message e) (message_yes e of_message)) (lt-leb k (first_place e.kind e.number es) l))
-    second None f t = cc
-
-    pub newcomer : place_of places end (get_or es k no_event).number ≡ None → not_repeated es k (get_or es k no_event) ≡ None
-    newcomer f =
-        let e = get_or es k no_event in
-        single_none es k e (λ _. fresh es k e.kind e.number (sym found ∙ f))
-
   module _ (h : k < length es) (new : MessagePlaces) where
     pub seen_skip : ((get_or es k no_event).kind ≢ output) × ((get_or es k no_event).kind ≢ input) → new ≡ places → Seen es (k + 1) new
     seen_skip other same Output m = ap (λ (x : MessagePlaces). place_of x Output m) same ∙ s Output m ∙ seen_past es k output m h (λ a _. other.0 a)

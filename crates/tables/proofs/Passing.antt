@@ -1,11 +1,11 @@
 -- The steps of a pass over a table's events.
-use Rattle.std.proofs.Common.{◌≡◌, ℕ, ◌+◌, ◌<◌, ◌≤◌, List, length, get_or, drop, Some, None, Option, sym, ap, ◌∙◌}
+use Rattle.std.proofs.Common.{◌≡◌, ℕ, ◌+◌, ◌<◌, List, length, get_or, drop, Some, None, Option, sym, ap, ◌∙◌}
 use Rattle.charts.specs.declared.parts.Event.{Event}
 use Rattle.charts.specs.declared.faults.Fault.{Fault}
 use Rattle.charts.specs.Events.{no_event}
 use Rattle.checks.specs.Cut.{instance_of, index_of}
 use Rattle.checks.specs.Checked.{table_fault, scan}
-use Rattle.checks.proofs.Scans.{scan_pass, scan_stop, scan_end}
+use Rattle.checks.proofs.Scans.{scan_pass, scan_stop}
 
 -- no event before k breaks the rule
 abbrev pub Clean : (ℕ → Event → Option ℕ) → List ℕ → List Event → ℕ → Type 0
@@ -17,6 +17,3 @@ module _ (rule : ℕ → Event → Option ℕ) (ns : List ℕ) (es : List Event)
 
   pub onward : k < length es → rule k (get_or es k no_event) ≡ None → Clean rule ns es (k + 1)
   onward h kept = sym (scan_pass rule ns es k h kept) ∙ clean
-
-  pub finish : length es ≤ k → scan rule ns 0 es ≡ None
-  finish h = sym clean ∙ scan_end rule ns es k h

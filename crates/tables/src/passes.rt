@@ -26,6 +26,7 @@ fn check_form(width: usize, e: &Event) -> Result<(), Rule>
     Ok(())
 }
 
+// `map_err` with `?` in the passes was tried, and the proof didn't close: nothing is known of what a closure over `blame` answers.
 impl Layout<'_, '_> {
     // The events one by one for their form.
     fn check_forms(&self) -> Result<(), Fault>
@@ -77,8 +78,7 @@ impl Layout<'_, '_> {
         requires { p < length self.now.events.now }
         ensures { result ≡ joins self.now.lengths.now self.now.events.now p i (instance_of self.now.lengths.now k) }
     {
-        self.locate(p).instance == i
-            && usize::from(self.events[p].peer) == self.locate(k).instance
+        self.locate(p).instance == i && usize::from(self.events[p].peer) == self.locate(k).instance
     }
 
     // Whether event k, e, has its match, if it is of a message: with the environment, none; else the other end on its peer.

@@ -1,11 +1,6 @@
 use Rattle.std.proofs.Common.{refl, sym, ◌∙◌}
-use Rattle.tables.proofs.Indexing.{small_number, second, unnoted, seen_skip, seen_note}
+use Rattle.tables.proofs.Indexing.{small_number, unnoted, seen_skip, seen_note}
 use Rattle.tables.proofs.layout.Layout.note_message.Goals as goal
-
-pub returns-then-is_some : goal.returns-then-is_some
-returns-then-is_some c =
-    let es = c.args.self.now.events.now in
-    record { repeats = second es c.args.k c.args.places.now c.requires.seen c.in-Some.end c.in-Some.ensures c.find.result c.find.ensures c.if-is_some.ensures; seen = tt }
 
 pub returns-else-is_some-clause-seen : goal.returns-else-is_some-clause-seen
 returns-else-is_some-clause-seen c =
