@@ -29,7 +29,7 @@ module _ (f g : Option Fault) (L K : List (List Event)) (i k : ℕ) (within : k 
   right_side : column (join_lists 4 f g (beside L K)) i ≡ map (moved (λ i. i + length L) (span L)) (column K (i - length L))
   right_side =
       let whole = whole_from 4 f g (beside L K) (counted_whole 4 f g (beside L K) i k within) in
-      ap (λ (J : List (List Event)). column J i) whole.lists ∙ beside_right L K i past
+      ap (λ (J : List (List Event)). column J i) whole ∙ beside_right L K i past
 
   pub right_event : event_of (join_lists 4 f g (beside L K)) i k ≡ moved (λ i. i + length L) (span L) (event_of K (i - length L) k)
   right_event =

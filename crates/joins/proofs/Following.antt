@@ -26,10 +26,10 @@ after_summed f g L K a b w weighed wide =
 -- the count and the events of one chart after another, where both are whole
 module _ (f g : Option Fault) (L K : List (List Event)) (i : ℕ) (w : is_some (join_trouble 3 f g (after L K)) ≡ false) where
   pub after_counted : count_of (join_lists 3 f g (after L K)) i ≡ count_of L i + count_of K i
-  after_counted = ap (λ (J : List (List Event)). count_of J i) (whole_from 3 f g (after L K) w).lists ∙ after_count L K i
+  after_counted = ap (λ (J : List (List Event)). count_of J i) (whole_from 3 f g (after L K) w) ∙ after_count L K i
 
   pub after_begins : (k : ℕ) → k < count_of L i → event_of (join_lists 3 f g (after L K)) i k ≡ event_of L i k
-  after_begins k l = ap (λ (J : List (List Event)). event_of J i k) (whole_from 3 f g (after L K) w).lists ∙ after_first L K i k l
+  after_begins k l = ap (λ (J : List (List Event)). event_of J i k) (whole_from 3 f g (after L K) w) ∙ after_first L K i k l
 
   pub after_goes_on : (k : ℕ) → count_of L i ≤ k → event_of (join_lists 3 f g (after L K)) i k ≡ moved (λ i. i) (span L) (event_of K i (k - count_of L i))
-  after_goes_on k l = ap (λ (J : List (List Event)). event_of J i k) (whole_from 3 f g (after L K) w).lists ∙ after_second L K i k l
+  after_goes_on k l = ap (λ (J : List (List Event)). event_of J i k) (whole_from 3 f g (after L K) w) ∙ after_second L K i k l

@@ -35,18 +35,13 @@ limited_so layer None None L K J a b s e same =
 limited_so layer None (Some g) L K J a b s e same = absurd (let z : ◌≡◌ {A = ℕ} 0 1 = cc in omega arith)
 limited_so layer (Some f) g L K J a b s e same = absurd (let z : ◌≡◌ {A = ℕ} 0 1 = cc in omega arith)
 
--- a join without a fault has both parts, and its lists
-pub record Whole (layer : ℕ) (f g : Option Fault) (J : List (List Event)) : Type 0 where
-  pub first : f ≡ None
-  pub second : g ≡ None
-  pub lists : join_lists layer f g J ≡ J
-
 whole_limits : (layer : ℕ) (J : List (List Event)) (b : Bool) → is_some (cond b None (Some (join_fault 31 layer))) ≡ false → unspoiled (cond b None (Some (join_fault 31 layer))) J ≡ J
 whole_limits layer J true e = refl
 whole_limits layer J false e = absurd (let z : ◌≡◌ {A = ℕ} 0 1 = cc in omega arith)
 
-pub whole_from : (layer : ℕ) (f g : Option Fault) (J : List (List Event)) → is_some (join_trouble layer f g J) ≡ false → Whole layer f g J
-whole_from layer None None J e = record { first = refl; second = refl; lists = whole_limits layer J (fits J) e }
+-- a join without a fault has the joined lists
+pub whole_from : (layer : ℕ) (f g : Option Fault) (J : List (List Event)) → is_some (join_trouble layer f g J) ≡ false → join_lists layer f g J ≡ J
+whole_from layer None None J e = whole_limits layer J (fits J) e
 whole_from layer None (Some g) J e = absurd (let z : ◌≡◌ {A = ℕ} 0 1 = cc in omega arith)
 whole_from layer (Some f) g J e = absurd (let z : ◌≡◌ {A = ℕ} 0 1 = cc in omega arith)
 

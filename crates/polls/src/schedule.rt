@@ -83,7 +83,7 @@ impl Schedule {
     }
 }
 
-// The number of the poll in an exchange.
+// The number of the poll in an exchange, of which there are at most 992.
 fn poll_number(exchange: usize) -> u16
     requires { exchange < 992 }
     ensures { result ≡ 2 * exchange }
