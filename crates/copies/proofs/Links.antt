@@ -1,5 +1,5 @@
 -- What is fixed of an event whose message goes from an instance to an instance, by its end of the message.
-use Rattle.std.proofs.Common.{◌≡◌, ℕ, ◌<◌, true, false, ◌&&◌, ltb, List, length, Some, Option, sym, refl, ap, ◌∙◌, arith}
+use Rattle.std.proofs.Common.{◌≡◌, ℕ, ◌<◌, true, false, ◌&&◌, ltb, List, length, Some, sym, refl, ap, ◌∙◌, arith}
 use Rattle.std.proofs.lemmas.Bool.{lt-ltb, and_from, and_right, cond-true, cond-false}
 use Rattle.charts.specs.declared.parts.Event.{Event}
 use Rattle.charts.specs.Events.{event, output, input}
@@ -53,16 +53,13 @@ module _ (L : List (List Event)) (i k : ℕ) (e : Event) (w : e.peer < length L)
       ∙ ap (λ (n : ℕ). passing L e.peer i n k) (sym (mate_input o))
 
 module _ (x : Linker) (i k : ℕ) (e : Event) (a : At (linked_lists x) i k e) (w : e.peer < length (linked_lists x)) where
-  mate_noted : (end : End) → e.kind ≡ kind_of end → place_of x.places (other_end end) e.number ≡ Some (mate_of (linked_lists x) i e)
+  -- the place of the other event of the message was noted
+  pub mate_noted : (end : End) → e.kind ≡ kind_of end → place_of x.places (other_end end) e.number ≡ Some (mate_of (linked_lists x) i e)
   mate_noted Output o =
       input_noted (linked_lists x) (grid_sound x.grid.now) x.places x.noted i k e.peer e.number (at_kind (linked_lists x) i k output e.number e a o refl) w
       ∙ ap Some (sym (mate_output (linked_lists x) i k e w o))
   mate_noted Input o =
       (output_noted (linked_lists x) (grid_sound x.grid.now) x.places x.noted i k e a o w).place ∙ ap Some (sym (mate_input (linked_lists x) i k e w o))
-
-  -- a place that was looked up for the other event of the message is its place
-  pub mate_found : (end other : End) (found : Option ℕ) → e.kind ≡ kind_of end → other ≡ other_end end → found ≡ place_of x.places other e.number → found ≡ Some (mate_of (linked_lists x) i e)
-  mate_found end other found o p f = f ∙ ap (λ (y : End). place_of x.places y e.number) p ∙ mate_noted end o
 
   -- an output stands on the sender
   pub mate_within : e.kind ≡ input → mate_of (linked_lists x) i e < count_of (linked_lists x) e.peer

@@ -1,15 +1,15 @@
 -- The messages of a chart, noted event by event.
-use Rattle.std.proofs.Common.{◌≡◌, ℕ, ◌+◌, ◌<◌, ◌≤◌, true, false, ◌&&◌, eqb, ltb, ◌⊎◌, List, Some, sym, refl, ap, ◌∙◌, inl, inr, arith}
+use Rattle.std.proofs.Common.{◌≡◌, ℕ, ◌+◌, ◌<◌, ◌≤◌, true, false, cond, ◌&&◌, eqb, ltb, ◌⊎◌, List, Some, sym, refl, ap, ◌∙◌, inl, inr, arith}
 use Rattle.std.proofs.lemmas.Bool.{cases_lt, cases_Bool, cond-true, cond-false, eqb-true, eq-eqb, lt-ltb, and_parts, and_from, both_ways}
 use Rattle.charts.specs.declared.parts.Event.{Event}
-use Rattle.charts.specs.Events.{event, output, input}
+use Rattle.charts.specs.Events.{event}
 use Rattle.charts.specs.Lists.{At, count_of, event_of}
 use Rattle.charts.specs.Sound.{Sound}
 use Rattle.messages.specs.declared.ends.End.{End}
 use Rattle.messages.specs.declared.ends.End.TheVariants.{Output, Input}
 use Rattle.messages.specs.declared.places.MessagePlaces.{MessagePlaces}
-use Rattle.messages.specs.Ends.{kind_of, same_end}
-use Rattle.messages.specs.Places.{place_of, place_after}
+use Rattle.messages.specs.Ends.{kind_of}
+use Rattle.messages.specs.Places.{place_of}
 use Rattle.copies.specs.Noted.{NotedBefore}
 
 -- event l of instance j comes before event k of instance i
@@ -27,26 +27,6 @@ earlier_or_same i k j l (inr h) =
     let a = h.1 in
     elim (cases_lt l k) [ inl b ↦ inl (inr (h.0, b)) | inr b ↦ inr (h.0, (omega arith)) ]
 
-same_ends : (x y : End) → same_end x y ≡ true → x ≡ y
-same_ends Output Output t = refl
-same_ends Output Input t = absurd (both_ways false refl t)
-same_ends Input Output t = absurd (both_ways false refl t)
-same_ends Input Input t = refl
-
-one_kind : (x y : End) → kind_of x ≡ kind_of y → same_end x y ≡ true
-one_kind Output Output e = refl
-one_kind Output Input e = absurd (omega arith)
-one_kind Input Output e = absurd (omega arith)
-one_kind Input Input e = refl
-
--- the kind of an event that is one of no message
-abbrev pub Neither : Event → Type 0
-Neither e = (e.kind ≡ output → ⊥) × (e.kind ≡ input → ⊥)
-
-neither_end : (e : Event) (end : End) → Neither e → e.kind ≡ kind_of end → ⊥
-neither_end e Output n of = n.0 of
-neither_end e Input n of = n.1 of
-
 module _ (L : List (List Event)) where
   -- the same place has the same event
   same_event : (i k j l : ℕ) (e f : Event) → At L i k e → At L j l f → j ≡ i → l ≡ k → f ≡ e
@@ -60,41 +40,32 @@ module _ (L : List (List Event)) where
   one_place s Output = s.one_output
   one_place s Input = s.one_input
 
-  module _ (i k : ℕ) (e : Event) (m : MessagePlaces) (a : At L i k e) (noted : NotedTo L i k m) where
-    -- one event of a message more
-    pub noted_more : Sound L → (end : End) (n : MessagePlaces) → e.kind ≡ kind_of end →
-        ((x : End) (number : ℕ) → place_of n x number ≡ place_after m end e.number k x number) → NotedTo L i (k + 1) n
-    noted_more s end n is put j l f x b before of =
-        put x f.number ∙
-        (elim (cases_Bool (same_end x end && (eqb f.number e.number && ltb e.number 4096))) [
-          | inl t ↦
-              let p = and_parts (same_end x end) (eqb f.number e.number && ltb e.number 4096) t in
-              let q = and_parts (eqb f.number e.number) (ltb e.number 4096) p.1 in
-              let same = eqb-true f.number e.number q.0 in
-              let kind : f.kind ≡ kind_of end = of ∙ ap kind_of (same_ends x end p.0) in
-              let place = one_place s end e.number j l f.peer i k e.peer (at_kind j l (kind_of end) e.number f b kind same) (at_kind i k (kind_of end) e.number e a is refl) in
-              cond-true _ (Some k) (place_of m x f.number) t ∙ ap Some (sym place.1)
-          | inr t ↦ cond-false _ (Some k) (place_of m x f.number) t ∙ earlier t
-        ])
-      where
-        here : j ≡ i → l ≡ k → (same_end x end && (eqb f.number e.number && ltb e.number 4096)) ≡ true
-        here p q =
-            let same = same_event i k j l e f a b p q in
-            let small = s.numbers i k e a in
-            and_from (same_end x end) _ (one_kind x end (sym of ∙ ap (λ (y : Event). y.kind) same ∙ is))
-            (and_from (eqb f.number e.number) _ (eq-eqb f.number e.number (ap (λ (y : Event). y.number) same)) (lt-ltb e.number 4096 (omega arith)))
+  -- one event more
+  pub noted_more : Sound L → (i k : ℕ) (e : Event) (m n : MessagePlaces) → At L i k e →
+      ((x : End) (number : ℕ) → place_of n x number ≡ cond (eqb e.kind (kind_of x) && (eqb number e.number && ltb number 4096)) (Some k) (place_of m x number)) →
+      NotedTo L i k m → NotedTo L i (k + 1) n
+  noted_more s i k e m n a put noted j l f x b before of =
+      put x f.number ∙
+      (elim (cases_Bool (eqb e.kind (kind_of x) && (eqb f.number e.number && ltb f.number 4096))) [
+        | inl t ↦
+            let p = and_parts (eqb e.kind (kind_of x)) (eqb f.number e.number && ltb f.number 4096) t in
+            let q = and_parts (eqb f.number e.number) (ltb f.number 4096) p.1 in
+            let kind = eqb-true e.kind (kind_of x) p.0 in
+            let same = eqb-true f.number e.number q.0 in
+            let place = one_place s x e.number j l f.peer i k e.peer (at_kind j l (kind_of x) e.number f b of same) (at_kind i k (kind_of x) e.number e a kind refl) in
+            cond-true _ (Some k) (place_of m x f.number) t ∙ ap Some (sym place.1)
+        | inr t ↦ cond-false _ (Some k) (place_of m x f.number) t ∙ earlier t
+      ])
+    where
+      here : j ≡ i → l ≡ k → (eqb e.kind (kind_of x) && (eqb f.number e.number && ltb f.number 4096)) ≡ true
+      here p q =
+          let same = same_event i k j l e f a b p q in
+          let small = s.numbers j l f b in
+          and_from (eqb e.kind (kind_of x)) _ (eq-eqb e.kind (kind_of x) (sym (ap (λ (y : Event). y.kind) same) ∙ of))
+          (and_from (eqb f.number e.number) _ (eq-eqb f.number e.number (ap (λ (y : Event). y.number) same)) (lt-ltb f.number 4096 (omega arith)))
 
-        earlier : (same_end x end && (eqb f.number e.number && ltb e.number 4096)) ≡ false → place_of m x f.number ≡ Some l
-        earlier t =
-            elim (earlier_or_same i k j l before) [ inl h ↦ noted j l f x b h of | inr h ↦ absurd (both_ways _ t (here h.0 h.1)) ]
-
-    -- one event of no message more
-    pub noted_still : Neither e → NotedTo L i (k + 1) m
-    noted_still n j l f x b before of =
-        elim (earlier_or_same i k j l before) [
-          | inl h ↦ noted j l f x b h of
-          | inr h ↦ absurd (neither_end e x n (ap (λ (y : Event). y.kind) (sym (same_event i k j l e f a b h.0 h.1)) ∙ of))
-        ]
+      earlier : (eqb e.kind (kind_of x) && (eqb f.number e.number && ltb f.number 4096)) ≡ false → place_of m x f.number ≡ Some l
+      earlier t = elim (earlier_or_same i k j l before) [ inl h ↦ noted j l f x b h of | inr h ↦ absurd (both_ways _ t (here h.0 h.1)) ]
 
   -- one instance more
   pub noted_column : (i k : ℕ) (m : MessagePlaces) → count_of L i ≤ k → NotedTo L i k m → NotedBefore L (i + 1) m

@@ -50,6 +50,7 @@ impl Indexed {
     }
 
     // Event k of instance i with what is fixed of it, none where there is no such event.
+    #[tactic(auto, using(crate::proofs::Kept::kept_slot))]
     pub fn slot(&self, i: usize, k: usize) -> Option<Slot>
         ensures { result ≡ slot_at (kept self.now) i k }
     {

@@ -1,6 +1,7 @@
 ghost use Rattle.std.specs.Prelude.{◌≡◌, ℕ, ◌+◌, ◌<◌, false, length, MatchOption, slice_index_or};
 ghost use Rattle.charts.specs.Lists.{At, column, count_of};
-ghost use Rattle.messages.specs.Ends.{kind_of};
+ghost use Rattle.messages.specs.Ends.{kind_of, other_end};
+ghost use Rattle.messages.specs.Places.{place_of};
 ghost use Rattle.orders.specs.Passing.{passing};
 ghost use Rattle.copies.specs.Filled.{Filled};
 ghost use Rattle.copies.specs.Grids.{Mated, Ranked, no_slot};
@@ -52,7 +53,7 @@ impl Linker<'_> {
                 .is_some_and(|place| k <= usize::from(place))
     }
 
-    // How many messages from the sender to instance i are among its events before the one at sent, and have their inputs at k or after it.
+    // How many messages from the sender to instance i have their outputs before the one at sent, and their inputs at k or after it.
     fn count_ahead(&self, sender: usize, sent: u16, i: usize, k: usize) -> u16
         requires within { sent < count_of (linked_lists self.now) sender }
         requires receiver { i < length (linked_lists self.now) }
@@ -65,13 +66,20 @@ impl Linker<'_> {
             .count() as u16
     }
 
+    // Where the other event of the event's message stands on its instance.
+    fn mate(&self, end: End, event: Event) -> Option<u16>
+        ensures { result ≡ place_of self.now.places (other_end end) event.number }
+    {
+        self.places.find(end.other(), event.number)
+    }
+
     // Event k of instance i with what is fixed of it, none where its message does not go from an instance to an instance.
     fn link(&self, i: usize, k: usize, event: Event) -> Option<Slot>
         requires { At (linked_lists self.now) i k event }
         ensures { MatchOption result (between (linked_lists self.now) event ≡ false) (λ slot. slot ≡ slot_of (linked_lists self.now) i k) }
     {
         let (end, peer) = self.between(event)?;
-        let mate = self.places.find(end.other(), event.number)?;
+        let mate = self.mate(end, event)?;
         let ahead = match end {
             End::Output => 0,
             End::Input => self.count_ahead(peer, mate, i, k),

@@ -1,9 +1,22 @@
-ghost use Rattle.std.specs.Prelude.{◌+◌};
+ghost use Rattle.std.specs.Prelude.{◌≡◌, ℕ, ◌+◌, cond, ◌&&◌, ◌==◌, Some, nat_lt};
+ghost use Rattle.messages.specs.declared.ends.End.{End as Side};
+ghost use Rattle.messages.specs.Ends.{kind_of};
+ghost use Rattle.messages.specs.Places.{place_of};
 ghost use Rattle.copies.specs.Kept.{grid_lists};
 ghost use Rattle.copies.specs.Noted.{Noted, NotedBefore};
 
 use crate::grid::Grid;
+use charts::Event;
 use messages::{End, MessagePlaces};
+
+// Notes that the event stands at the place on its instance, if it is one of a message.
+fn note(places: &mut MessagePlaces, event: Event, place: u16)
+    ensures { (end : Side) (n : ℕ) → place_of places.new end n ≡ cond (event.kind == kind_of end && (n == event.number && nat_lt n 4096)) (Some place) (place_of places.old end n) }
+{
+    if let Some(end) = End::of(event) {
+        places.note(end, event.number, place);
+    }
+}
 
 // Notes the messages of instance i.
 fn note_column(places: &mut MessagePlaces, grid: &Grid, i: usize)
@@ -11,9 +24,7 @@ fn note_column(places: &mut MessagePlaces, grid: &Grid, i: usize)
     ensures { NotedBefore (grid_lists grid.now) (i + 1) places.new }
 {
     for (k, slot) in grid.column(i).iter().enumerate() {
-        if let Some(end) = End::of(slot.event) {
-            places.note(end, slot.event.number, k as u16);
-        }
+        note(places, slot.event, k as u16);
     }
 }
 

@@ -1,30 +1,20 @@
 use crate::cases::check_copy;
-use charts::{ACTION, Chart, ENVIRONMENT, Event, INPUT, OUTPUT};
+use charts::{Chart, Event, Kind, Peer};
 use copies::{Indexed, Slot};
 use polls::Poll;
 use std::test::Fail;
 use tables::Table;
 
-const DONE: Event = Event {
-    kind: ACTION,
-    peer: ENVIRONMENT,
-    number: 4095,
-};
+fn done() -> Event {
+    Event::new(Kind::Action, Peer::Environment, 4095)
+}
 
 fn sent(peer: u8, number: u16) -> Event {
-    Event {
-        kind: OUTPUT,
-        peer,
-        number,
-    }
+    Event::new(Kind::Output, Peer::Instance(peer), number)
 }
 
 fn received(peer: u8, number: u16) -> Event {
-    Event {
-        kind: INPUT,
-        peer,
-        number,
-    }
+    Event::new(Kind::Input, Peer::Instance(peer), number)
 }
 
 fn slot(event: Event, mate: u16, ahead: u16) -> Option<Slot> {
@@ -52,11 +42,11 @@ fn a_message_overtakes_another(rt: HostRuntime) -> Result<(), Fail> {
 
 #[test]
 fn a_message_to_oneself(rt: HostRuntime) -> Result<(), Fail> {
-    let events = [sent(0, 5), DONE, received(0, 5)];
+    let events = [sent(0, 5), done(), received(0, 5)];
     let table = Table::new(&[3], &events);
     let copy = Indexed::new(&table);
     assert_eq!(rt; copy.slot(0, 0), slot(sent(0, 5), 2, 0));
-    assert_eq!(rt; copy.slot(0, 1), slot(DONE, 0, 0));
+    assert_eq!(rt; copy.slot(0, 1), slot(done(), 0, 0));
     assert_eq!(rt; copy.slot(0, 2), slot(received(0, 5), 0, 0));
     assert_eq!(rt; copy.slot(0, 3), None);
     check_copy(&rt, &table)
@@ -66,7 +56,7 @@ fn a_message_to_oneself(rt: HostRuntime) -> Result<(), Fail> {
 fn messages_to_others_are_not_ahead(rt: HostRuntime) -> Result<(), Fail> {
     let events = [
         sent(2, 0),
-        sent(ENVIRONMENT, 1),
+        Event::new(Kind::Output, Peer::Environment, 1),
         sent(1, 2),
         received(0, 2),
         received(0, 0),
@@ -81,7 +71,7 @@ fn messages_to_others_are_not_ahead(rt: HostRuntime) -> Result<(), Fail> {
 #[test]
 fn the_largest_tables(rt: HostRuntime) -> Result<(), Fail> {
     check_copy(&rt, &Table::new(&[0; 32], &[]))?;
-    check_copy(&rt, &Table::new(&[4096], &[DONE; 4096]))
+    check_copy(&rt, &Table::new(&[4096], &[done(); 4096]))
 }
 
 #[test]
