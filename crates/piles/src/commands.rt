@@ -2,7 +2,6 @@ ghost use Rattle.tabletexts.specs.Outcome.{Answers};
 ghost use Rattle.piletexts.specs.Blocks.{table_until};
 ghost use Rattle.piletexts.specs.Lines.{lines_of};
 ghost use Rattle.piles.specs.Applied.{applied, standing, tabled};
-ghost use Rattle.piles.specs.Stack.{stack_of};
 
 use crate::pile::Pile;
 use piletexts::{Command, Lines, read_table};
@@ -14,7 +13,7 @@ use tabletexts::Unread;
 impl Pile {
     // The table on the lines that follow, put on top.
     fn push_table<'t>(&mut self, heap: Global, lines: &mut Lines<'t>) -> Result<(), Unread>
-        ensures { Answers (λ _. standing (stack_of self.new.charts.items) lines.new.number (lines_of lines.new.rest.now)) (tabled (stack_of self.old.charts.items) (table_until lines.old.number (lines_of lines.old.rest.now))) result }
+        ensures { Answers (λ _. standing self.new lines.new.number (lines_of lines.new.rest.now)) (tabled self.old (table_until lines.old.number (lines_of lines.old.rest.now))) result }
     {
         let table = read_table(heap, lines)?;
         self.push(
@@ -31,7 +30,7 @@ impl Pile {
         command: Command,
         lines: &mut Lines<'t>,
     ) -> Result<(), Unread>
-        ensures { Answers (λ _. standing (stack_of self.new.charts.items) lines.new.number (lines_of lines.new.rest.now)) (applied command (standing (stack_of self.old.charts.items) lines.old.number (lines_of lines.old.rest.now))) result }
+        ensures { Answers (λ _. standing self.new lines.new.number (lines_of lines.new.rest.now)) (applied command (standing self.old lines.old.number (lines_of lines.old.rest.now))) result }
     {
         let line = lines.number();
         match command {

@@ -1,7 +1,7 @@
 ghost use Rattle.std.specs.Prelude.{◌≡◌, [], ◌∷◌, Ok};
 ghost use Rattle.std.specs.Option.{ok_or};
 ghost use Rattle.tabletexts.specs.Outcome.{Answers};
-ghost use Rattle.piles.specs.Stack.{Popped, join_two, shown, stack_of, top_of, turn_one};
+ghost use Rattle.piles.specs.Stack.{Popped, join_two, shown, top_of, turn_one};
 ghost use Rattle.piles.specs.Meanings.{Makes, Meaning, after_meaning, beside_meaning, meaning, recast_meaning};
 
 use charts::Chart;
@@ -9,6 +9,7 @@ use flats::Flat;
 use joins::{After, Beside};
 use recasts::Recast;
 use std::alloc::Global;
+use std::marker::Model;
 use tabletexts::Unread;
 
 // A stack of charts. The last one is the top.
@@ -17,9 +18,21 @@ pub struct Pile {
     charts: Vec<Flat>,
 }
 
+// A stack is seen as what its charts mean, the top first.
+impl Model for Pile {
+    ghost use Rattle.std.specs.Prelude.{List};
+    ghost use Rattle.piles.specs.Meanings.{Meaning};
+
+    ghost Value = { List Meaning };
+
+    ghost use Rattle.piles.specs.Stack.{stack_of};
+
+    ghost view = { λ p. stack_of p.charts.items };
+}
+
 impl Pile {
     pub fn new(heap: Global) -> Pile
-        ensures { stack_of result.charts.items ≡ [] }
+        ensures { result ≡ [] }
     {
         Pile {
             charts: Vec::new(heap),
@@ -28,14 +41,14 @@ impl Pile {
 
     // The chart on top, none where the stack is empty.
     pub fn top(&self) -> Option<&Flat>
-        ensures { top_of (stack_of self.now.charts.items) ≡ shown result }
+        ensures { top_of self.now ≡ shown result }
     {
         self.charts.as_slice().last()
     }
 
     // An owned copy of the chart, put on top. Want of memory says nothing.
     pub fn push<C: Chart>(&mut self, heap: Global, chart: &C) -> Result<(), Unread>
-        ensures { Answers (λ _. stack_of self.new.charts.items) (Ok (meaning (C.Chart.trouble chart.now) (C.Chart.lists chart.now) ∷ stack_of self.old.charts.items)) result }
+        ensures { Answers (λ _. self.new) (Ok (meaning (C.Chart.trouble chart.now) (C.Chart.lists chart.now) ∷ self.old)) result }
     {
         self.charts.push(Flat::new(heap, chart)?)?;
         Ok(())
@@ -43,7 +56,7 @@ impl Pile {
 
     // The chart on top, taken off; where there is none, the line that wants it cannot be read.
     fn pop(&mut self, line: usize) -> Result<Flat, Unread>
-        ensures { Popped line (stack_of self.old.charts.items) result (stack_of self.new.charts.items) }
+        ensures { Popped line self.old result self.new }
     {
         self.charts.pop().ok_or(Unread::Line(line))
     }
@@ -56,7 +69,7 @@ impl Pile {
         join: F,
     ) -> Result<(), Unread>
         requires { F.IsAlwaysCallable join }
-        ensures { (f : Meaning → Meaning → Meaning) → Makes f (F.post join) C.Chart.trouble C.Chart.lists → Answers (λ _. stack_of self.new.charts.items) (ok_or (join_two f (stack_of self.old.charts.items)) line) result }
+        ensures { (f : Meaning → Meaning → Meaning) → Makes f (F.post join) C.Chart.trouble C.Chart.lists → Answers (λ _. self.new) (ok_or (join_two f self.old) line) result }
     {
         let upper = self.pop(line)?;
         let lower = self.pop(line)?;
@@ -65,14 +78,14 @@ impl Pile {
 
     // Two charts taken off, and put on top the upper one after the other.
     pub(crate) fn join_after(&mut self, heap: Global, line: usize) -> Result<(), Unread>
-        ensures { Answers (λ _. stack_of self.new.charts.items) (ok_or (join_two after_meaning (stack_of self.old.charts.items)) line) result }
+        ensures { Answers (λ _. self.new) (ok_or (join_two after_meaning self.old) line) result }
     {
         self.join(heap, line, After::new)
     }
 
     // Two charts taken off, and put on top the upper one beside the other.
     pub(crate) fn join_beside(&mut self, heap: Global, line: usize) -> Result<(), Unread>
-        ensures { Answers (λ _. stack_of self.new.charts.items) (ok_or (join_two beside_meaning (stack_of self.old.charts.items)) line) result }
+        ensures { Answers (λ _. self.new) (ok_or (join_two beside_meaning self.old) line) result }
     {
         self.join(heap, line, Beside::new)
     }
@@ -84,7 +97,7 @@ impl Pile {
         line: usize,
         names: [u8; 32],
     ) -> Result<(), Unread>
-        ensures { Answers (λ _. stack_of self.new.charts.items) (ok_or (turn_one (recast_meaning names) (stack_of self.old.charts.items)) line) result }
+        ensures { Answers (λ _. self.new) (ok_or (turn_one (recast_meaning names) self.old) line) result }
     {
         let chart = self.pop(line)?;
         self.push(heap, &Recast::new(chart, names))

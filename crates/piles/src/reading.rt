@@ -2,7 +2,6 @@ ghost use Rattle.std.specs.Prelude.{[]};
 ghost use Rattle.piletexts.specs.Lines.{lines_of};
 ghost use Rattle.piles.specs.Applied.{standing};
 ghost use Rattle.piles.specs.Piled.{Tells};
-ghost use Rattle.piles.specs.Stack.{stack_of};
 
 use crate::pile::Pile;
 use piletexts::{Lines, read_command};
@@ -11,7 +10,7 @@ use tabletexts::Unread;
 
 // The stack that the commands on the lines of a text make, or the number of its first line that cannot be read.
 pub fn read_pile(heap: Global, text: &[u8]) -> Result<Pile, Unread>
-    ensures { Tells (λ p. stack_of p.charts.items) (standing [] 0 (lines_of text.now)) result }
+    ensures { Tells (λ p. p) (standing [] 0 (lines_of text.now)) result }
 {
     let mut pile = Pile::new(heap);
     let mut lines = Lines::new(text);

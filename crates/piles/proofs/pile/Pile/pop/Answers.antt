@@ -7,5 +7,6 @@ use Rattle.piles.proofs.pile.Pile.pop.Goals as goal
 
 pub returns : goal.returns
 returns c =
-    subst (λ (r : Result Flat Unread). Popped c.args.line (stack_of c.args.self.now.charts.items) r (stack_of c.pop.new.self.items)) (sym c.ok_or.ensures.value)
-    (popped c.args.self.now.charts c.pop.new.self c.pop.result c.args.line c.pop.ensures.items c.pop.ensures.cases)
+    rw (← c.self.view_is)
+    (subst (λ (r : Result Flat Unread). Popped c.args.line (stack_of c.self.inside.charts.items) r (stack_of c.pop.new.self.items)) (sym c.ok_or.ensures.value)
+    (popped c.self.inside.charts c.pop.new.self c.pop.result c.args.line c.pop.ensures.items c.pop.ensures.cases))
