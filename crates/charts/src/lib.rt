@@ -10,8 +10,5 @@ mod peers;
 pub use chart::Chart;
 pub use faults::{Fault, Layer, Rule};
 pub use kinds::{Kind, UnknownKind};
-pub use parts::{
-    ACTION, ENVIRONMENT, Event, INPUT, MOST_EVENTS, MOST_INSTANCES, MOST_NUMBER, NO_EVENT, OUTPUT,
-    Summary,
-};
+pub use parts::{Event, MOST_EVENTS, MOST_INSTANCES, MOST_NUMBER, NO_EVENT, Summary};
 pub use peers::Peer;

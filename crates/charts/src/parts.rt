@@ -8,15 +8,6 @@ use crate::kinds::Kind;
 use crate::peers::Peer;
 use std::fmt;
 
-// Numbers of kinds and of the environment, for crates that do not yet use `Kind` and `Peer`.
-pub const OUTPUT: u8 = 1;
-
-pub const INPUT: u8 = 2;
-
-pub const ACTION: u8 = 3;
-
-pub const ENVIRONMENT: u8 = 255;
-
 // The limits of a sound chart: its instances, its events, and the number of a message or an action.
 pub const MOST_INSTANCES: usize = 32;
 

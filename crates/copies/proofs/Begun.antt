@@ -10,9 +10,8 @@ use Rattle.charts.specs.declared.faults.Fault.{Fault}
 use Rattle.charts.specs.Judged.{Judged}
 use Rattle.charts.specs.Lists.{column, count_of}
 use Rattle.charts.specs.Sound.{Sound}
-use Rattle.checks.specs.Cut.{cut}
-use Rattle.flats.proofs.Copied.{joined_checked}
-use Rattle.flats.proofs.Joins.{in_one, cut_joined}
+use Rattle.checks.specs.Cut.{cut, in_one}
+use Rattle.checks.proofs.Joined.{cut_joined, joined_checked}
 use Rattle.joining.proofs.Recasts.{empty_sound}
 use Rattle.copies.specs.declared.parts.Slot.{Slot}
 use Rattle.copies.specs.declared.parts.Column.{Column}
