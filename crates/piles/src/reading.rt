@@ -14,6 +14,7 @@ pub fn read_pile(heap: Global, text: &[u8]) -> Result<Pile, Unread>
 {
     let mut pile = Pile::new(heap);
     let mut lines = Lines::new(text);
+    // No `for`: it would hold the lines, and a command reads on from them.
     while let Some(line) = lines.next() {
         if !line.is_empty() {
             let Some(command) = read_command(line) else {

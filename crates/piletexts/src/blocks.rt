@@ -22,6 +22,7 @@ fn read_events<'t>(heap: Global, lines: &mut Lines<'t>) -> Result<Vec<Event>, Un
     ensures { Answers (λ v. up_to v.items lines.new.number (lines_of lines.new.rest.now)) (events_until [] lines.old.number (lines_of lines.old.rest.now)) result }
 {
     let mut events = Vec::new(heap);
+    // No `for`: it would hold the lines, and their number is asked for inside.
     while let Some(line) = lines.next() {
         if is_end(line) {
             return Ok(events);

@@ -20,6 +20,7 @@ pub enum Unread {
     Memory,
 }
 
+// Two conversions, since `?` takes one step, and the library's errors of memory have two types.
 impl From<AllocError> for Unread {
     ghost from_gives = { λ _ r. r ≡ Memory };
 
