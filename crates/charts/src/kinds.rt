@@ -29,6 +29,17 @@ impl Kind {
             Kind::Action => 3,
         }
     }
+
+    // The word for the kind.
+    pub const fn name(self) -> &'static str
+        ensures { result.now ≡ name_of self }
+    {
+        match self {
+            Kind::Output => "out",
+            Kind::Input => "in",
+            Kind::Action => "action",
+        }
+    }
 }
 
 impl From<Kind> for u8 {
@@ -58,11 +69,7 @@ impl fmt::Display for Kind {
     ghost output = { λ kind. Some (name_of kind) };
 
     fn fmt<W: fmt::Write>(&self, f: &mut fmt::Formatter<W>) -> fmt::Result {
-        f.write_str(match self {
-            Kind::Output => "out",
-            Kind::Input => "in",
-            Kind::Action => "action",
-        })
+        f.write_str(self.name())
     }
 }
 

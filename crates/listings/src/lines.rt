@@ -12,9 +12,7 @@ pub fn kind_name(kind: u8) -> &'static str
     ensures { result.now ≡ kind_name kind }
 {
     match Kind::try_from(kind) {
-        Ok(Kind::Output) => "out",
-        Ok(Kind::Input) => "in",
-        Ok(Kind::Action) => "action",
+        Ok(kind) => kind.name(),
         Err(_) => "none",
     }
 }
