@@ -21,7 +21,7 @@ module _ (M : Carry) (L : List (List Event)) (sound : Sound L) (rows : List Row)
 
   -- what the rule says of it, and what it is to say
   abbrev Agrees : Event → Type 0
-  Agrees e = slot_may M (place_of rows) (sent_of rows) i (slot_for e) ≡ may_run_at M L (place_of rows) i e
+  Agrees e = slot_may M (length L) (place_of rows) (sent_of rows) i (slot_for e) ≡ may_run_at M L (place_of rows) i e
 
   at_action : (j m : ℕ) → Agrees (event action j m)
   at_action j m = refl
@@ -31,8 +31,9 @@ module _ (M : Carry) (L : List (List Event)) (sound : Sound L) (rows : List Row)
   at_output j m (inl l) =
       let few = sound.few_instances in
       let n = ne_eqb j environment (omega arith) in
+      let w = lt-ltb j (length L) l in
       let t = tallied i j l in
-      rw n (ap (M.send i j) t)
+      rw (n, w) (ap (M.send i j) t)
 
   at_input : (s m : ℕ) → (s < length L) ⊎ (s ≡ environment) → Agrees (event input s m)
   at_input s m (inr e) = rw (eq-eqb s environment e) refl
@@ -46,7 +47,7 @@ module _ (M : Carry) (L : List (List Event)) (sound : Sound L) (rows : List Row)
   of_kind e k p t = record { kind = p t; peer = e.peer; number = e.number }
 
   pub slot_may_lem : place_of rows i < count_of L i →
-      slot_may M (place_of rows) (sent_of rows) i (slot_of L i (place_of rows i)) ≡ may_run_at M L (place_of rows) i (event_of L i (place_of rows i))
+      slot_may M (length L) (place_of rows) (sent_of rows) i (slot_of L i (place_of rows i)) ≡ may_run_at M L (place_of rows) i (event_of L i (place_of rows i))
   slot_may_lem left =
       let e = event_of L i (place_of rows i) in
       let a : At L i (place_of rows i) e = record { within = left; is = refl } in

@@ -8,13 +8,13 @@ use Rattle.copies.specs.declared.parts.Slot.{Slot}
 abbrev pub mate_ran : (ℕ → ℕ) → Slot → Bool
 mate_ran p x = nat_lt x.mate (p x.event.peer)
 
--- the slot's event, the next of instance i, may run at the positions p with s messages on the way
-abbrev pub slot_may : Carry → (ℕ → ℕ) → (ℕ → ℕ → ℕ) → ℕ → Slot → Bool
-slot_may M p s i x =
+-- the slot's event, the next of instance i, may run at the positions p with s messages on the way, in a chart of this width
+abbrev pub slot_may : Carry → ℕ → (ℕ → ℕ) → (ℕ → ℕ → ℕ) → ℕ → Slot → Bool
+slot_may M width p s i x =
     cond (x.event.kind == action) true
     (cond (is_message x.event && x.event.peer == environment) true
-    (cond (x.event.kind == output) (M.send i x.event.peer (s i x.event.peer))
-    (cond (x.event.kind == input) (mate_ran p x && M.take x.event.peer i x.ahead) false)))
+    (cond (x.event.kind == output && nat_lt x.event.peer width) (M.send i x.event.peer (s i x.event.peer))
+    (cond (x.event.kind == input && nat_lt x.event.peer width) (mate_ran p x && M.take x.event.peer i x.ahead) false)))
 
 -- what it waits for where it may not run
 abbrev pub slot_waits : (ℕ → ℕ) → ℕ → Slot → ℕ

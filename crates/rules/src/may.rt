@@ -1,4 +1,4 @@
-ghost use Rattle.std.specs.Prelude.{◌≡◌, if◌then◌else◌};
+ghost use Rattle.std.specs.Prelude.{◌≡◌, length, if◌then◌else◌};
 ghost use Rattle.orders.specs.Deciding.{unfinished, may_now_at, waits_now};
 ghost use Rattle.rules.specs.Places.{sent_of};
 ghost use Rattle.rules.specs.Rules.{mate_ran, slot_may, slot_waits};
@@ -19,19 +19,20 @@ impl Board {
 
     // Whether the slot's event, the next of instance i, may run.
     fn allows<M: Medium>(&self, medium: &M, i: usize, slot: Slot) -> bool
-        ensures { result ≡ slot_may (M.carries medium.now) (positions self.now) (sent_of self.now.rows.table) i slot }
+        ensures { result ≡ slot_may (M.carries medium.now) (length (lists_of self.now)) (positions self.now) (sent_of self.now.rows.table) i slot }
     {
+        let width = self.copy.width();
         match (Kind::try_from(slot.event.kind), Peer::from(slot.event.peer)) {
             (Ok(Kind::Action), _) => true,
             (Ok(Kind::Output | Kind::Input), Peer::Environment) => true,
-            (Ok(Kind::Output), Peer::Instance(peer)) => {
+            (Ok(Kind::Output), Peer::Instance(peer)) if usize::from(peer) < width => {
                 let peer = usize::from(peer);
                 medium.sends(i, peer, self.rows.on_the_way(i, peer))
             }
-            (Ok(Kind::Input), Peer::Instance(peer)) => {
+            (Ok(Kind::Input), Peer::Instance(peer)) if usize::from(peer) < width => {
                 self.mate_ran(slot) && medium.takes(usize::from(peer), i, usize::from(slot.ahead))
             }
-            (Err(_), _) => false,
+            (_, _) => false,
         }
     }
 

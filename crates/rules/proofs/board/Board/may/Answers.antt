@@ -1,4 +1,4 @@
-use Rattle.std.proofs.Common.{Bool, ◌&&◌, sym, ap, ◌∙◌}
+use Rattle.std.proofs.Common.{Bool, ◌&&◌, length, sym, ap, ◌∙◌}
 use Rattle.std.proofs.lemmas.Bool.{lt-ltb}
 use Rattle.charts.specs.Lists.{event_of}
 use Rattle.orders.specs.Deciding.{may_run_at}
@@ -17,5 +17,5 @@ returns-in-Some g c =
     let i = c.args.i in
     let s = slot_there L i (place_of x.rows.table i) c.in-Some.slot (sym c.next.ensures ∙ c.in-Some.is) in
     let r = slot_may_lem M L (kept_sound x.copy) x.rows.table x.tallied i s.0 in
-    c.allows.ensures ∙ ap (slot_may M (place_of x.rows.table) (sent_of x.rows.table) i) s.1 ∙ r
+    c.allows.ensures ∙ ap (slot_may M (length L) (place_of x.rows.table) (sent_of x.rows.table) i) s.1 ∙ r
     ∙ ap (λ (b : Bool). b && may_run_at M L (place_of x.rows.table) i (event_of L i (place_of x.rows.table i))) (sym (lt-ltb (place_of x.rows.table i) _ s.0))
