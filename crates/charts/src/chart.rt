@@ -21,7 +21,7 @@ pub trait Chart {
     fn summary(&self) -> Result<Summary, Fault>
         ensures { result ≡ summed (trouble self.now) (lists self.now) };
 
-    // The number of events on instance i, 0 where there is no such instance.
+    // The number of events on instance i, 0 where there is no such instance: users rely on a number and an event for every argument.
     fn count(&self, i: usize) -> usize
         ensures { result ≡ count_of (lists self.now) i };
 

@@ -1,9 +1,8 @@
-ghost use Rattle.std.specs.Prelude.{◌≡◌, Some, codes};
+ghost use Rattle.std.specs.Prelude.{◌≡◌, Some};
 ghost use Rattle.charts.specs.Events.{is_message};
 ghost use Rattle.charts.specs.Kinds.{code_of, name_of, Decodes};
 
 use crate::parts::Event;
-use std::error::Error;
 use std::fmt;
 
 // What an event does.
@@ -72,16 +71,6 @@ impl fmt::Display for Kind {
         f.write_str(self.name())
     }
 }
-
-impl fmt::Display for UnknownKind {
-    ghost output = { λ _. Some (codes "none") };
-
-    fn fmt<W: fmt::Write>(&self, f: &mut fmt::Formatter<W>) -> fmt::Result {
-        f.write_str("none")
-    }
-}
-
-impl Error for UnknownKind {}
 
 impl Event {
     // Whether the event sends or receives a message.

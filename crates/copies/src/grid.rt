@@ -5,7 +5,7 @@ ghost use Rattle.copies.specs.Lists.{counts, events_in};
 use crate::parts::{Column, Slot};
 
 // The events of a chart, instance after instance, and where those of each instance stand.
-// Fixed arrays with their lengths beside them: a run asks for no memory, and its copy is `Copy`.
+// Arrays with their lengths beside them: a run needs no heap and is copied as it is, and the kit's ArrayVec is not `Copy`.
 #[derive(Clone, Copy)]
 pub(crate) struct Grid {
     pub(crate) width: usize,

@@ -3,7 +3,7 @@ ghost use Rattle.std.specs.Prelude.{◌≡◌};
 use charts::{Event, NO_EVENT};
 
 // An event of the copy, with what its chart fixes of it beforehand.
-// Both numbers are 0 where its message does not go from an instance to an instance; the fields are public, so they stay numbers.
+// Numbers and no Options, 0 where no message goes between instances: the event beside them says so already, and who reads them asks it first.
 #[derive(Clone, Copy, PartialEq, Eq, Debug)]
 pub struct Slot {
     pub event: Event,
@@ -26,14 +26,14 @@ impl Slot {
     }
 }
 
-// Where the events of an instance stand among all: from the start on, so many. Public for callers that name it.
+// Where the events of an instance stand among all: from the start on, so many.
 #[derive(Clone, Copy, PartialEq, Eq, Debug)]
 pub struct Column {
     pub start: u16,
     pub count: u16,
 }
 
-// A place of the table that holds no event. Public for callers that name it.
+// A place of the table that holds no event.
 pub const NO_SLOT: Slot = Slot {
     event: NO_EVENT,
     mate: 0,

@@ -7,7 +7,7 @@ use crate::weighing::{limited, weigh};
 use charts::{Chart, Event, Fault, Layer, NO_EVENT, Summary};
 
 // Each instance has the events of the first chart, then those of the second.
-// No one type with `Beside` by a rule: only `new` and `into_parts` would be shared, since width, place and moving differ.
+// Not one type with `Beside`: width, place and moving differ, and not by a constant; a trait that gave them would owe the laws of both, and read worse.
 #[derive(Drop)]
 pub struct After<A, B> {
     first: A,

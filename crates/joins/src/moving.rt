@@ -19,7 +19,7 @@ pub(crate) fn raised(e: Event, span: usize) -> Event
 }
 
 // The event with its message's number raised, and its peer, unless that is the environment.
-// A recast turns peers too, by a table: one function of both would take the turn as a closure, in a public call with a `requires`.
+// A recast moves peers too, by a table: a function of both would take the move as a closure and be public, with a `requires`, which no public call here has.
 pub(crate) fn shifted(e: Event, width: usize, span: usize) -> Event
     requires number { e.number + span < 65536 }
     requires peer { (e.peer ≢ environment) → e.peer + width < 256 }

@@ -1,4 +1,4 @@
-use charts::{Event, Fault, Kind, Layer, Peer, Rule};
+use charts::{Event, Fault, Kind, Peer};
 
 pub(crate) fn out(peer: Peer, number: u16) -> Event {
     Event::new(Kind::Output, peer, number)
@@ -12,7 +12,12 @@ pub(crate) fn action(number: u16) -> Event {
     Event::new(Kind::Action, Peer::Environment, number)
 }
 
-// The fault of a chart as a whole.
-pub(crate) fn fault(layer: Layer, rule: Rule) -> Option<Fault> {
-    Some(Fault::of_whole(layer, rule))
+// A fault without a place, by the numbers that users know.
+pub(crate) fn fault(number: u8, layer: u8) -> Option<Fault> {
+    Some(Fault {
+        number,
+        instance: 0,
+        event: 0,
+        layer,
+    })
 }

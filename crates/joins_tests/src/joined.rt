@@ -1,6 +1,6 @@
 use crate::cases::{action, fault, input, out};
 use charts::Peer::{Environment, Instance};
-use charts::{Chart, Layer, NO_EVENT, Rule};
+use charts::{Chart, NO_EVENT};
 use joins::{After, Beside};
 use polls::Poll;
 use tables::Table;
@@ -45,7 +45,7 @@ fn widths(rt: HostRuntime) {
     let seventeen = Table::new(&[0; 17], &[]);
     assert_eq!(rt; Beside::new(sixteen, sixteen).width(), 32);
     let wide = Beside::new(sixteen, seventeen);
-    assert_eq!(rt; wide.fault(), fault(Layer::Beside, Rule::Limits));
+    assert_eq!(rt; wide.fault(), fault(31, 4));
     assert_eq!(rt; wide.width(), 0);
     assert_eq!(rt; After::new(seventeen, sixteen).width(), 17);
 }
@@ -56,13 +56,13 @@ fn events_and_spans(rt: HostRuntime) {
     let long = Table::new(&[2049], &events);
     assert_eq!(rt;
         After::new(long, long).fault(),
-        fault(Layer::After, Rule::Limits)
+        fault(31, 3)
     );
     let high = [out(Environment, 2048)];
     let top = Table::new(&[1], &high);
     assert_eq!(rt;
         After::new(top, top).fault(),
-        fault(Layer::After, Rule::Limits)
+        fault(31, 3)
     );
     let low = [out(Environment, 2046)];
     assert_eq!(rt; After::new(top, Table::new(&[1], &low)).span(), 4096);
@@ -74,14 +74,14 @@ fn the_first_fault_is_kept(rt: HostRuntime) {
     let large = Poll::new(32, 1);
     assert_eq!(rt;
         After::new(broken, large).fault(),
-        fault(Layer::Table, Rule::Sum)
+        fault(13, 1)
     );
     assert_eq!(rt;
         Beside::new(large, broken).fault(),
-        fault(Layer::Poll, Rule::Poll)
+        fault(33, 2)
     );
     let join = After::new(Beside::new(large, large), broken);
-    assert_eq!(rt; join.fault(), fault(Layer::Poll, Rule::Poll));
+    assert_eq!(rt; join.fault(), fault(33, 2));
     assert_eq!(rt; join.count(0), 0);
 }
 

@@ -1,6 +1,6 @@
 use crate::cases::{action, fault, input, out};
 use charts::Peer::{Environment, Instance};
-use charts::{Chart, Layer, NO_EVENT, Rule};
+use charts::{Chart, NO_EVENT};
 use joins::After;
 use polls::Poll;
 use recasts::Recast;
@@ -36,18 +36,18 @@ fn no_permutation(rt: HostRuntime) {
     let mut names = [0; 32];
     assert_eq!(rt;
         Recast::new(poll, names).fault(),
-        fault(Layer::Recast, Rule::Permutation)
+        fault(32, 5)
     );
     names[1] = 2;
     assert_eq!(rt;
         Recast::new(poll, names).fault(),
-        fault(Layer::Recast, Rule::Permutation)
+        fault(32, 5)
     );
     names[1] = 1;
     assert_eq!(rt; Recast::new(poll, names).fault(), None);
     assert_eq!(rt;
         Recast::new(Poll::new(32, 1), names).fault(),
-        fault(Layer::Poll, Rule::Poll)
+        fault(33, 2)
     );
     assert_eq!(rt; Recast::new(Table::new(&[], &[]), [255; 32]).fault(), None);
 }

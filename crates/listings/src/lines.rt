@@ -7,7 +7,7 @@ use charts::{Event, Fault, Kind, Peer, Summary};
 use std::alloc::{AllocError, Global};
 use std::fmt;
 
-// The name of an event's kind. A sound chart has no event without a kind.
+// The name of an event's kind, by its byte: every byte has an answer. A sound chart has no event without a kind.
 pub fn kind_name(kind: u8) -> &'static str
     ensures { result.now ≡ kind_name kind }
 {

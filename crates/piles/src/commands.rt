@@ -33,6 +33,7 @@ impl Pile {
         ensures { Answers (λ _. standing self.new lines.new.number (lines_of lines.new.rest.now)) (applied command (standing self.old lines.old.number (lines_of lines.old.rest.now))) result }
     {
         let line = lines.number();
+        // A command is what a text said, and no function: a match says what each does.
         match command {
             Command::Table => self.push_table(heap, lines),
             Command::Poll(keypads, rounds) => self.push(

@@ -1,4 +1,4 @@
-use piletexts::{Command, Lines, read_command};
+use piletexts::{Command, Lines, read_command, same};
 
 #[test]
 fn lines_end_in_a_line_feed_or_at_the_end(rt: HostRuntime) {
@@ -97,9 +97,8 @@ fn what_is_no_command(rt: HostRuntime) {
 
 #[test]
 fn the_same_bytes(rt: HostRuntime) {
-    let (ab, empty): (&[u8], &[u8]) = (b"ab", b"");
-    assert!(rt; empty == b"".as_slice());
-    assert!(rt; ab == b"ab".as_slice());
-    assert!(rt; ab != b"a".as_slice());
-    assert!(rt; ab != b"aB".as_slice());
+    assert!(rt; same(b"", b""));
+    assert!(rt; same(b"ab", b"ab"));
+    assert!(rt; !same(b"ab", b"a"));
+    assert!(rt; !same(b"ab", b"aB"));
 }

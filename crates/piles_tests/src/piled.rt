@@ -1,4 +1,4 @@
-use charts::{Chart, Event, Fault, Kind, Layer, Peer, Rule};
+use charts::{Chart, Event, Fault, Kind, Peer};
 use piles::read_pile;
 use std::alloc::Global;
 use std::test::Fail;
@@ -8,6 +8,16 @@ use tabletexts::Unread;
 fn fault(heap: Global, text: &[u8]) -> Option<Fault> {
     let pile = read_pile(heap, text).ok()?;
     pile.top()?.fault()
+}
+
+// A fault without a place, by the numbers that users know.
+fn placeless(number: u8, layer: u8) -> Option<Fault> {
+    Some(Fault {
+        number,
+        instance: 0,
+        event: 0,
+        layer,
+    })
 }
 
 #[test]
@@ -65,32 +75,32 @@ fn faults_of_spoiled_parts(rt: HostRuntime) {
     let heap = rt.alloc();
     assert_eq!(rt;
         fault(heap, b"poll 32 1"),
-        Some(Fault::of_whole(Layer::Poll, Rule::Poll))
+        placeless(33, 2)
     );
     assert_eq!(rt;
         fault(heap, b"table\n1\n.\npoll 32 1\nafter"),
-        Some(Fault::of_whole(Layer::Table, Rule::Sum))
+        placeless(13, 1)
     );
     assert_eq!(rt;
         fault(heap, b"poll 32 1\ntable\n1\n.\nafter"),
-        Some(Fault::of_whole(Layer::Poll, Rule::Poll))
+        placeless(33, 2)
     );
     assert_eq!(rt;
         fault(heap, b"table\n1\n.\npoll 32 1\nbeside"),
-        Some(Fault::of_whole(Layer::Table, Rule::Sum))
+        placeless(13, 1)
     );
     assert_eq!(rt;
         fault(heap, b"poll 1 1\npoll 32 1\nbeside"),
-        Some(Fault::of_whole(Layer::Poll, Rule::Poll))
+        placeless(33, 2)
     );
     assert_eq!(rt;
         fault(heap, b"poll 15 1\npoll 16 1\nbeside"),
-        Some(Fault::of_whole(Layer::Beside, Rule::Limits))
+        placeless(31, 4)
     );
     assert_eq!(rt; fault(heap, b"poll 15 1\npoll 15 1\nbeside"), None);
     assert_eq!(rt;
         fault(heap, b"poll 1 1\nrecast"),
-        Some(Fault::of_whole(Layer::Recast, Rule::Permutation))
+        placeless(32, 5)
     );
     assert_eq!(rt; fault(heap, b"table\n.\nrecast"), None);
 }

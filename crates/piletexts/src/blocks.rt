@@ -1,30 +1,23 @@
-ghost use Rattle.std.specs.Prelude.{◌≡◌, [], codes, vec_items};
-ghost use Rattle.std.specs.Str.{bytes_eq};
+ghost use Rattle.std.specs.Prelude.{[], vec_items};
 ghost use Rattle.tabletexts.specs.Outcome.{Answers};
 ghost use Rattle.tabletexts.specs.Table.{held, lengths_on};
 ghost use Rattle.piletexts.specs.Blocks.{events_until, on_line, table_until, up_to};
 ghost use Rattle.piletexts.specs.Lines.{lines_of};
 
 use crate::lines::Lines;
+use crate::words::same;
 use charts::Event;
 use std::alloc::Global;
 use tabletexts::{TableText, Unread, read_event, read_lengths};
 
-// Whether the line ends a table.
-fn is_end(line: &[u8]) -> bool
-    ensures { result ≡ bytes_eq line.now (codes ".") }
-{
-    line == b".".as_slice()
-}
-
-// The events on the lines up to the end of the table.
+// The events on the lines up to the end of the table. A table's own text has no such end, and its lines are not shared with a pile.
 fn read_events<'t>(heap: Global, lines: &mut Lines<'t>) -> Result<Vec<Event>, Unread>
     ensures { Answers (λ v. up_to v.items lines.new.number (lines_of lines.new.rest.now)) (events_until [] lines.old.number (lines_of lines.old.rest.now)) result }
 {
     let mut events = Vec::new(heap);
     // No `for`: it would hold the lines, and their number is asked for inside.
     while let Some(line) = lines.next() {
-        if is_end(line) {
+        if same(line, b".") {
             return Ok(events);
         }
         if !line.is_empty() {
@@ -55,7 +48,7 @@ pub fn read_table<'t>(heap: Global, lines: &mut Lines<'t>) -> Result<TableText, 
     let Some(line) = lines.next() else {
         return Err(Unread::Line(lines.number() + 1));
     };
-    if is_end(line) {
+    if same(line, b".") {
         return Ok(TableText {
             lengths: Vec::new(heap),
             events: Vec::new(heap),

@@ -9,4 +9,4 @@ mod words;
 pub use blocks::read_table;
 pub use lines::Lines;
 pub use parts::Command;
-pub use words::read_command;
+pub use words::{read_command, same};

@@ -5,6 +5,7 @@ ghost use Rattle.piletexts.specs.Lines.{lines_of};
 use tabletexts::cut;
 
 // The lines of a text, with the number of those that were read. A line ends in a line feed, which the last may lack.
+// No `impl Model`: it is `Copy`, and a copy of a view would need its inverse.
 #[derive(Clone, Copy)]
 pub struct Lines<'t> {
     rest: &'t [u8],

@@ -1,4 +1,5 @@
 ghost use Rattle.std.specs.Prelude.{◌≡◌};
+ghost use Rattle.std.specs.Str.{bytes_eq};
 ghost use Rattle.tabletexts.specs.Pieces.{pieces, pieces_after};
 ghost use Rattle.piletexts.specs.Commands.{command_on, names_in, only_word, poll_in, recast_by};
 
@@ -29,6 +30,13 @@ fn read_poll(operands: Option<&[u8]>) -> Option<Command>
         return None;
     }
     Some(Command::Poll(read_byte(keypads)?, read_byte(rounds)?))
+}
+
+// Whether two texts have the same bytes: `==` by a name that users of this crate may call.
+pub fn same(a: &[u8], b: &[u8]) -> bool
+    ensures { result ≡ bytes_eq a.now b.now }
+{
+    a == b
 }
 
 // The command, where no operands follow its word.

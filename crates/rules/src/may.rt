@@ -58,7 +58,7 @@ impl Board {
         }
     }
 
-    // What the next event of instance i waits for where it may not run; i itself where it has finished.
+    // What the next event of instance i waits for where it may not run; i itself where it has finished, so that a walk along the waits stays there.
     pub fn waits_for(&self, i: usize) -> usize
         ensures { result ≡ (if unfinished (lists_of self.now) (positions self.now) i then waits_now (lists_of self.now) (positions self.now) i else i) }
     {

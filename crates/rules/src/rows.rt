@@ -3,7 +3,7 @@ ghost use Rattle.rules.specs.Places.{Even};
 
 use crate::row::Row;
 
-// A row for each instance that a chart can have.
+// A row for each instance that a chart can have. Its calls take instances by number, each with its own bound: they are numbers in charts, orders and answers.
 #[derive(Clone, Copy)]
 pub struct Rows {
     pub(crate) table: [Row; 32],

@@ -11,6 +11,7 @@ fn make_call<M: Medium>(run: &mut Run<M>, call: Call, buffer: &mut [u8]) -> Answ
     ensures keeps { KeepsChart run.old run.new }
     ensures makes { (h : List ℕ) → StandsAfter run.old h → MakesCall (fault_of run.old) (M.carries run.old.medium) (lists_of run.old) h call buffer.old result buffer.new run.new.board.rows.table }
 {
+    // A call is data with its arguments, and no function: a match says what each makes.
     match call {
         Call::Step(i) => run.step(i).map_or_else(Answer::Refused, Answer::Stepped),
         Call::Drive(n) => run
