@@ -55,6 +55,7 @@ impl Pile {
     }
 
     // The chart on top, taken off; where there is none, the line that wants it cannot be read.
+    // The line is the command's and comes with it: a pile kept from one text to the next has none.
     fn pop(&mut self, line: usize) -> Result<Flat, Unread>
         ensures { Popped line self.old result self.new }
     {

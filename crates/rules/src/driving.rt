@@ -10,6 +10,7 @@ use media::Medium;
 
 impl Board {
     // Whether instance j may run, and not by the event that is held.
+    // The medium is the run's own and lent, what is held changes from drive to drive: no type has both.
     fn may_but<M: Medium>(&self, medium: &M, held: Option<Held>, j: usize) -> bool
         ensures { result ≡ held_now (M.carries medium.now) (lists_of self.now) held (positions self.now) j }
     {
