@@ -26,3 +26,7 @@ Finds o r = MatchResult r (λ _. o ≡ None) (λ f. o ≡ Some f)
 -- the error is the rule that is broken, by its number
 abbrev pub Breaks : {T : Type 0} → Option ℕ → Result T Rule → Type 0
 Breaks o r = MatchResult r (λ _. o ≡ None) (λ rule. o ≡ Some (number_of rule))
+
+-- each call tells of the event at k the rule that it breaks
+abbrev pub Tells : (ℕ → Event → Option ℕ) → (ℕ → Event → Result (Unit {0}) Rule → Type 0) → Type 0
+Tells rule post = (k : ℕ) (e : Event) (r : Result (Unit {0}) Rule) → post k e r → Breaks (rule k e) r

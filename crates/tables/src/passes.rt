@@ -1,18 +1,19 @@
-ghost use Rattle.std.specs.Prelude.{◌≡◌, ℕ, ◌+◌, ◌<◌, length, IfOk, None, slice_index_or};
+ghost use Rattle.std.specs.Prelude.{◌≡◌, ℕ, ◌+◌, ◌<◌, length, IfOk, None, Option, slice_index_or};
 ghost use Rattle.charts.specs.Events.{no_event};
+ghost use Rattle.charts.specs.declared.parts.Event.{Event};
 ghost use Rattle.checks.specs.Cut.{instance_of};
 ghost use Rattle.checks.specs.Rules.{well_formed, not_repeated, joins, matched};
-ghost use Rattle.checks.specs.Checked.{checked};
-ghost use Rattle.tables.specs.Findings.{misformed, repeated, unmatched, Finds, Breaks};
+ghost use Rattle.checks.specs.Checked.{checked, scan};
+ghost use Rattle.tables.specs.Findings.{misformed, repeated, unmatched, Finds, Breaks, Tells};
 ghost use Rattle.tables.specs.Seen.{Seen};
 
 use crate::layout::Layout;
 use charts::{Event, Fault, Kind, Layer, MOST_NUMBER, Peer, Rule};
 use messages::{End, MessagePlaces};
 
-// Whether an event is well formed, or the first rule on its kind, peer and number that it breaks.
-fn check_form(width: usize, e: &Event) -> Result<(), Rule>
-    ensures { (k : ℕ) → Breaks (well_formed width k e.now) result }
+// Whether an event is well formed, or the first rule on its kind, peer and number that it breaks, the same at any place.
+fn check_form(width: usize, e: Event) -> Result<(), Rule>
+    ensures { Breaks (well_formed width 0 e) result }
 {
     match (Kind::try_from(e.kind), Peer::from(e.peer)) {
         (Err(_), _) => return Err(Rule::Kind),
@@ -28,16 +29,24 @@ fn check_form(width: usize, e: &Event) -> Result<(), Rule>
 
 // `map_err` with `?` in the passes was tried, and the proof didn't close: nothing is known of what a closure over `blame` answers.
 impl Layout<'_, '_> {
-    // The events one by one for their form.
-    fn check_forms(&self) -> Result<(), Fault>
-        ensures { Finds (misformed self.now.lengths.now self.now.events.now) result }
+    // The fault at the first event of which `check` tells a rule.
+    fn check_each<F: Fn(usize, Event) -> Result<(), Rule>>(&self, check: F) -> Result<(), Fault>
+        requires { F.IsAlwaysCallable check }
+        ensures { (rule : ℕ → Event → Option ℕ) → Tells rule (F.post check) → Finds (scan rule self.now.lengths.now 0 self.now.events.now) result }
     {
         for (k, e) in self.events.iter().enumerate() {
-            if let Err(rule) = check_form(self.lengths.len(), e) {
+            if let Err(rule) = check(k, *e) {
                 return Err(self.blame(k, rule));
             }
         }
         Ok(())
+    }
+
+    // The events one by one for their form.
+    fn check_forms(&self) -> Result<(), Fault>
+        ensures { Finds (misformed self.now.lengths.now self.now.events.now) result }
+    {
+        self.check_each(|_, e| check_form(self.lengths.len(), e))
     }
 
     // Where the messages stand, if no event is the second of its message and kind.
@@ -82,11 +91,11 @@ impl Layout<'_, '_> {
     }
 
     // Whether event k, e, has its match, if it is of a message: with the environment, none; else the other end on its peer.
-    fn check_match(&self, k: usize, e: &Event, places: &MessagePlaces) -> Result<(), Rule>
+    fn check_match(&self, k: usize, e: Event, places: &MessagePlaces) -> Result<(), Rule>
         requires { Seen self.now.events.now (length self.now.events.now) places.now }
-        ensures { Breaks (matched self.now.lengths.now self.now.events.now k e.now) result }
+        ensures { Breaks (matched self.now.lengths.now self.now.events.now k e) result }
     {
-        let Some(end) = End::of(*e) else {
+        let Some(end) = End::of(e) else {
             return Ok(());
         };
         match (Peer::from(e.peer), places.find(end.other(), e.number)) {
@@ -103,12 +112,7 @@ impl Layout<'_, '_> {
         requires { Seen self.now.events.now (length self.now.events.now) places.now }
         ensures { Finds (unmatched self.now.lengths.now self.now.events.now) result }
     {
-        for (k, e) in self.events.iter().enumerate() {
-            if let Err(rule) = self.check_match(k, e, places) {
-                return Err(self.blame(k, rule));
-            }
-        }
-        Ok(())
+        self.check_each(|k, e| self.check_match(k, e, places))
     }
 }
 
