@@ -39,7 +39,7 @@ impl<'l, 'e> Layout<'l, 'e> {
         Ok(Layout { lengths, events })
     }
 
-    // The place of the event at.
+    // The place of the event at; past the events the number of instances, as the table's rules have it.
     pub(crate) fn locate(&self, at: usize) -> Place
         ensures instance { result.instance ≡ instance_of self.now.lengths.now at }
         ensures index { result.index ≡ index_of self.now.lengths.now at }

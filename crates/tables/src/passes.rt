@@ -27,7 +27,6 @@ fn check_form(width: usize, e: Event) -> Result<(), Rule>
     Ok(())
 }
 
-// `map_err` with `?` in the passes was tried, and the proof didn't close: nothing is known of what a closure over `blame` answers.
 impl Layout<'_, '_> {
     // The fault at the first event of which `check` tells a rule.
     fn check_each<F: Fn(usize, Event) -> Result<(), Rule>>(&self, check: F) -> Result<(), Fault>
@@ -35,6 +34,7 @@ impl Layout<'_, '_> {
         ensures { (rule : ℕ → Event → Option ℕ) → Tells rule (F.post check) → Finds (scan rule self.now.lengths.now 0 self.now.events.now) result }
     {
         for (k, e) in self.events.iter().enumerate() {
+            // `map_err` with `?` was tried, and the proof didn't close: nothing is known of what a closure over `blame` answers.
             if let Err(rule) = check(k, *e) {
                 return Err(self.blame(k, rule));
             }
@@ -49,7 +49,7 @@ impl Layout<'_, '_> {
         self.check_each(|_, e| check_form(self.lengths.len(), e))
     }
 
-    // Where the messages stand, if no event is the second of its message and kind.
+    // Where the messages stand, if no event is the second of its message and kind. It changes what it makes as it goes, so it is no `check_each`.
     fn index_messages(&self) -> Result<MessagePlaces, Fault>
         requires formed { misformed self.now.lengths.now self.now.events.now ≡ None }
         ensures repeats { Finds (repeated self.now.lengths.now self.now.events.now) result }
@@ -90,7 +90,7 @@ impl Layout<'_, '_> {
         self.locate(p).instance == i && usize::from(self.events[p].peer) == self.locate(k).instance
     }
 
-    // Whether event k, e, has its match, if it is of a message: with the environment, none; else the other end on its peer.
+    // Whether event k, e, is of no message or has its match: no other event with the environment, else the other end on its peer.
     fn check_match(&self, k: usize, e: Event, places: &MessagePlaces) -> Result<(), Rule>
         requires { Seen self.now.events.now (length self.now.events.now) places.now }
         ensures { Breaks (matched self.now.lengths.now self.now.events.now k e) result }
