@@ -54,16 +54,10 @@ fn widths(rt: HostRuntime) {
 fn events_and_spans(rt: HostRuntime) {
     let events = [action(0); 2049];
     let long = Table::new(&[2049], &events);
-    assert_eq!(rt;
-        After::new(long, long).fault(),
-        fault(31, 3)
-    );
+    assert_eq!(rt; After::new(long, long).fault(), fault(31, 3));
     let high = [out(Environment, 2048)];
     let top = Table::new(&[1], &high);
-    assert_eq!(rt;
-        After::new(top, top).fault(),
-        fault(31, 3)
-    );
+    assert_eq!(rt; After::new(top, top).fault(), fault(31, 3));
     let low = [out(Environment, 2046)];
     assert_eq!(rt; After::new(top, Table::new(&[1], &low)).span(), 4096);
 }
@@ -72,14 +66,8 @@ fn events_and_spans(rt: HostRuntime) {
 fn the_first_fault_is_kept(rt: HostRuntime) {
     let broken = Table::new(&[1], &[]);
     let large = Poll::new(32, 1);
-    assert_eq!(rt;
-        After::new(broken, large).fault(),
-        fault(13, 1)
-    );
-    assert_eq!(rt;
-        Beside::new(large, broken).fault(),
-        fault(33, 2)
-    );
+    assert_eq!(rt; After::new(broken, large).fault(), fault(13, 1));
+    assert_eq!(rt; Beside::new(large, broken).fault(), fault(33, 2));
     let join = After::new(Beside::new(large, large), broken);
     assert_eq!(rt; join.fault(), fault(33, 2));
     assert_eq!(rt; join.count(0), 0);

@@ -34,21 +34,12 @@ fn three_instances_turned(rt: HostRuntime) {
 fn no_permutation(rt: HostRuntime) {
     let poll = Poll::new(1, 1);
     let mut names = [0; 32];
-    assert_eq!(rt;
-        Recast::new(poll, names).fault(),
-        fault(32, 5)
-    );
+    assert_eq!(rt; Recast::new(poll, names).fault(), fault(32, 5));
     names[1] = 2;
-    assert_eq!(rt;
-        Recast::new(poll, names).fault(),
-        fault(32, 5)
-    );
+    assert_eq!(rt; Recast::new(poll, names).fault(), fault(32, 5));
     names[1] = 1;
     assert_eq!(rt; Recast::new(poll, names).fault(), None);
-    assert_eq!(rt;
-        Recast::new(Poll::new(32, 1), names).fault(),
-        fault(33, 2)
-    );
+    assert_eq!(rt; Recast::new(Poll::new(32, 1), names).fault(), fault(33, 2));
     assert_eq!(rt; Recast::new(Table::new(&[], &[]), [255; 32]).fault(), None);
 }
 

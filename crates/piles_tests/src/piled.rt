@@ -73,10 +73,7 @@ fn a_recast_renames(rt: HostRuntime) -> Result<(), Fail> {
 #[test]
 fn faults_of_spoiled_parts(rt: HostRuntime) {
     let heap = rt.alloc();
-    assert_eq!(rt;
-        fault(heap, b"poll 32 1"),
-        placeless(33, 2)
-    );
+    assert_eq!(rt; fault(heap, b"poll 32 1"), placeless(33, 2));
     assert_eq!(rt;
         fault(heap, b"table\n1\n.\npoll 32 1\nafter"),
         placeless(13, 1)
@@ -98,10 +95,7 @@ fn faults_of_spoiled_parts(rt: HostRuntime) {
         placeless(31, 4)
     );
     assert_eq!(rt; fault(heap, b"poll 15 1\npoll 15 1\nbeside"), None);
-    assert_eq!(rt;
-        fault(heap, b"poll 1 1\nrecast"),
-        placeless(32, 5)
-    );
+    assert_eq!(rt; fault(heap, b"poll 1 1\nrecast"), placeless(32, 5));
     assert_eq!(rt; fault(heap, b"table\n.\nrecast"), None);
 }
 
