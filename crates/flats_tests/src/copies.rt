@@ -5,11 +5,17 @@ use polls::Poll;
 use std::test::Fail;
 use tables::Table;
 
-const SENT: Event = Event::new(Kind::Output, Peer::Instance(2), 7);
+fn sent() -> Event {
+    Event::new(Kind::Output, Peer::Instance(2), 7)
+}
 
-const RECEIVED: Event = Event::new(Kind::Input, Peer::Instance(0), 7);
+fn received() -> Event {
+    Event::new(Kind::Input, Peer::Instance(0), 7)
+}
 
-const DONE: Event = Event::new(Kind::Action, Peer::Environment, 4095);
+fn done() -> Event {
+    Event::new(Kind::Action, Peer::Environment, 4095)
+}
 
 #[test]
 fn a_table(rt: HostRuntime) -> Result<(), Fail> {
@@ -17,27 +23,27 @@ fn a_table(rt: HostRuntime) -> Result<(), Fail> {
     check_copy(
         &rt,
         heap,
-        &Table::new(&[2, 0, 2], &[SENT, DONE, RECEIVED, DONE]),
+        &Table::new(&[2, 0, 2], &[sent(), done(), received(), done()]),
     )?;
     check_copy(&rt, heap, &Table::new(&[], &[]))?;
     check_copy(&rt, heap, &Table::new(&[0; 32], &[]))?;
-    check_copy(&rt, heap, &Table::new(&[4096], &[DONE; 4096]))
+    check_copy(&rt, heap, &Table::new(&[4096], &[done(); 4096]))
 }
 
 #[test]
 fn its_events(rt: HostRuntime) -> Result<(), Fail> {
     let flat = Flat::new(
         rt.alloc(),
-        &Table::new(&[2, 0, 2], &[SENT, DONE, RECEIVED, DONE]),
+        &Table::new(&[2, 0, 2], &[sent(), done(), received(), done()]),
     )?;
     assert_eq!(rt; flat.width(), 3);
     assert_eq!(rt; flat.span(), 8);
     assert_eq!(rt; flat.count(0), 2);
     assert_eq!(rt; flat.count(1), 0);
-    assert_eq!(rt; flat.event(0, 0), SENT);
+    assert_eq!(rt; flat.event(0, 0), sent());
     assert_eq!(rt; flat.event(0, 2), NO_EVENT);
-    assert_eq!(rt; flat.event(2, 0), RECEIVED);
-    assert_eq!(rt; flat.event(2, 1), DONE);
+    assert_eq!(rt; flat.event(2, 0), received());
+    assert_eq!(rt; flat.event(2, 1), done());
     Ok(())
 }
 
@@ -52,14 +58,15 @@ fn a_poll(rt: HostRuntime) -> Result<(), Fail> {
 #[test]
 fn spoiled_charts(rt: HostRuntime) -> Result<(), Fail> {
     let heap = rt.alloc();
-    check_copy(&rt, heap, &Table::new(&[1, 0, 0], &[SENT]))?;
+    check_copy(&rt, heap, &Table::new(&[1, 0, 0], &[sent()]))?;
     check_copy(&rt, heap, &Table::new(&[1], &[]))?;
     check_copy(&rt, heap, &Poll::new(32, 1))
 }
 
 #[test]
 fn the_fault_of_a_spoiled_chart(rt: HostRuntime) -> Result<(), Fail> {
-    let table = Table::new(&[1, 0, 0], &[SENT]);
+    let events = [sent()];
+    let table = Table::new(&[1, 0, 0], &events);
     let flat = Flat::new(rt.alloc(), &table)?;
     assert!(rt; flat.fault().is_some());
     assert_eq!(rt; flat.fault(), table.fault());
