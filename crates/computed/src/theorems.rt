@@ -1,0 +1,8 @@
+ghost use Rattle.computed.specs.Computed.{Computed};
+
+// Each relation on orders holds of a sound chart exactly where the test that computes it answers true.
+pub fn relations_on_orders_are_computed() -> bool
+    ensures { Computed }
+{
+    true
+}
