@@ -1,4 +1,4 @@
--- The state operator's rules in one: what it admits, and its set afterAction.
+-- The state operator's rules in one: what it admits, and its set after_action.
 use Rattle.std.proofs.Common.{◌≡◌, Bool, true, false, not, refl, ap}
 use Rattle.std.proofs.lemmas.Bool.{both_ways, not-true, not_from_false}
 use Rattle.process.specs.Actions.{Action, out, «in», out_env, in_env, local, between}
