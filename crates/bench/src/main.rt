@@ -43,6 +43,7 @@ fn measure(rt: &HostRuntime) -> anyhow::Result<()> {
 
 fn look_up<C: Chart>(rt: &HostRuntime, chart: &C) -> anyhow::Result<()> {
     let start = Instant::now(rt)?;
+    // Added up by hand, so that it saturates and is not proved to fit.
     let mut sum = 0u32;
     for i in 0..32 {
         for k in 0..128 {

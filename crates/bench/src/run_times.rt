@@ -42,7 +42,7 @@ fn pile(heap: Global) -> Result<Flat, AllocError> {
     Ok(chart)
 }
 
-// The sum of the latest places of all events.
+// The sum of the latest places of all events, by hand, so that it saturates and is not proved to fit. A refusal has no place: 0.
 fn places<C: Chart>(chart: &C, run: &Run<Free>) -> u64 {
     let mut sum = 0u64;
     for i in 0..chart.width() {

@@ -20,7 +20,7 @@ enum Wanted {
     Help,
 }
 
-// The number that the word writes in decimal; one too large to hold is as large as can be held.
+// The number that the word writes in decimal; one too large to hold is as large as can be held, and not none as in a table.
 fn size(word: &str) -> Option<usize> {
     if word.is_empty() || !word.bytes().all(|b| b.is_ascii_digit()) {
         return None;

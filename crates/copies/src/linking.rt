@@ -41,7 +41,7 @@ impl Linker<'_> {
         }
     }
 
-    // Whether the event is an output to instance i whose input stands there at k or after it.
+    // Whether the event is an output to instance i whose input stands there at k or after it. The peer's byte itself: 255 is no instance.
     fn is_ahead(&self, event: Event, i: usize, k: usize) -> bool
         ensures { result ≡ is_ahead self.now.places i k event }
     {

@@ -3,7 +3,7 @@ ghost use Rattle.std.specs.Prelude.{◌≡◌};
 use charts::{Event, NO_EVENT};
 
 // An event of the copy, with what its chart fixes of it beforehand.
-// Numbers and no Options, 0 where no message goes between instances: the event beside them says so already, and who reads them asks it first.
+// Numbers and no Options, 0 where no message goes between instances: the event beside them says so already, and what is read of them there is not used.
 #[derive(Clone, Copy, PartialEq, Eq, Debug)]
 pub struct Slot {
     pub event: Event,

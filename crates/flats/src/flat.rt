@@ -15,7 +15,7 @@ pub struct Flat {
     ghost sound: { wrong_with verdict (lists_in columns.items) ≡ None },
 }
 
-// The events of instance i.
+// The events of instance i. No `collect`: each push may want memory.
 fn column_of<C: Chart>(heap: Global, chart: &C, i: usize) -> Result<Vec<Event>, AllocError>
     ensures { IfOk result (λ events. events.items ≡ column (C.lists chart.now) i) }
 {

@@ -55,7 +55,7 @@ impl Pile {
     }
 
     // The chart on top, taken off; where there is none, the line that wants it cannot be read.
-    // The line is the command's and comes with it: a pile kept from one text to the next has none.
+    // The line is the command's and comes with it: a pile kept from one text to the next has none. The heap is the caller's at each call.
     fn pop(&mut self, line: usize) -> Result<Flat, Unread>
         ensures { Popped line self.old result self.new }
     {

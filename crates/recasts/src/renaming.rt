@@ -5,7 +5,7 @@ ghost use Rattle.joining.specs.Recast.{to};
 
 use charts::{Event, Peer};
 
-// The event with its peer renamed, unless that is the environment.
+// The event with its peer renamed, unless that is the environment. `shifted` of joins moves peers too, and says why they are two.
 pub(crate) fn renamed(e: Event, names: &[u8]) -> Event
     requires { (e.peer ≢ environment) → e.peer < length names.now }
     ensures { result ≡ moved (to names.now) 0 e }

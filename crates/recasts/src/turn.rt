@@ -29,6 +29,7 @@ impl Turn {
         Turn { to, back }
     }
 
+    // The width comes from the chart at each call: a bounded number's type would be made here alone.
     // Whether instance i has a name below the width, is the first to have it, and is the name of one below the width.
     fn turns(&self, width: usize, i: usize) -> bool
         requires few { width ≤ 32 }

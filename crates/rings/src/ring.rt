@@ -19,7 +19,7 @@ impl Ring {
         }
     }
 
-    // The ring that the waits reach from the lowest unfinished instance; none where every instance has finished.
+    // The ring that the waits reach from the lowest unfinished instance; none where every instance has finished, since the walk then starts past the last one.
     pub fn of(board: &Board) -> Ring
         ensures { members_of result ≡ ring_of (lists_of board.now) (positions board.now) }
     {

@@ -30,6 +30,7 @@ impl Board {
         (0..self.copy.width()).find(|j| self.may_but(medium, held, *j))
     }
 
+    // The buffer is the caller's, and so is the count: a run has no heap.
     // Makes as many lowest-numbered steps as the buffer is long, or until none is left, and writes their instances.
     pub fn drive<M: Medium>(&mut self, medium: &M, held: Option<Held>, out: &mut [u8]) -> usize
         ensures keeps { self.new.copy ≡ self.old.copy }

@@ -10,7 +10,7 @@ use copies::Slot;
 use media::Medium;
 
 impl Board {
-    // Whether the other event of the slot's message has run.
+    // Whether the other event of the slot's message has run. The peer's byte itself: 255 is no instance, and has no position.
     pub(crate) fn mate_ran(&self, slot: Slot) -> bool
         ensures { result ≡ mate_ran (positions self.now) slot }
     {
@@ -46,7 +46,7 @@ impl Board {
         }
     }
 
-    // What the slot's event, the next of instance i, waits for where it may not run.
+    // What the slot's event, the next of instance i, waits for where it may not run; an action, or an event with the environment, never waits.
     fn awaits(&self, i: usize, slot: Slot) -> usize
         ensures { result ≡ slot_waits (positions self.now) i slot }
     {

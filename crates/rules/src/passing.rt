@@ -7,6 +7,7 @@ use charts::Kind;
 use copies::Slot;
 
 impl Rows {
+    // The peer's byte itself: 255 is no instance below the width.
     // Counts the message that the slot's event, the next of instance i, outputs or inputs; ran says whether its other event has run.
     pub(crate) fn pass(&mut self, i: usize, slot: Slot, width: usize, ran: bool)
         requires instance { i < 32 }

@@ -1,4 +1,4 @@
-// Where an instance stands, and how many of its messages are on the way to each instance.
+// Where an instance stands, and how many of its messages are on the way to each instance: an array, for the reason of the rows.
 #[derive(Clone, Copy)]
 pub struct Row {
     pub(crate) position: u16,

@@ -82,7 +82,7 @@ impl Layout<'_, '_> {
         Ok(())
     }
 
-    // Whether the event at p is on instance i, and its peer is the instance of event k.
+    // Whether the event at p is on instance i, and its peer is the instance of event k. The peer's byte itself: 255 is no instance of a chart.
     fn is_joined(&self, p: usize, i: usize, k: usize) -> bool
         requires { p < length self.now.events.now }
         ensures { result ≡ joins self.now.lengths.now self.now.events.now p i (instance_of self.now.lengths.now k) }

@@ -56,6 +56,7 @@ impl<'l, 'e> Chart for Table<'l, 'e> {
         self.verdict
     }
 
+    // An arm and no `map_or`: what is promised of a spoiled chart, 0, stands by itself.
     fn count(&self, i: usize) -> usize {
         match self.verdict {
             Ok(_) => self.lengths.get(i).map_or(0, |n| usize::from(*n)),

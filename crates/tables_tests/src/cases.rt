@@ -14,6 +14,7 @@ pub(crate) fn action(number: u16) -> Event {
 }
 
 // An event with a kind that there is not.
+// An event with a kind that there is not: a number, since `Kind` cannot say it.
 pub(crate) fn unknown(kind: u8) -> Event {
     Event {
         kind,
