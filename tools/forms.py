@@ -23,7 +23,7 @@ LINES = [
     ("3a", "a loop that goes on while something is left", r"^\s*while "),
     ("3b", "a counter that code moves on by one", r"^\s*(self\.)?\w+ \+= 1;"),
     ("3c", "a `for` over the numbers of a range", r"^\s*('\w+: )?for \w+ in .*\.\."),
-    ("4a", "a function that compares by hand", r"\bfn (same|is|is_\w+)\(\w+: "),
+    ("4a", "a function that compares by hand", r"\bfn (same|is|is_\w+)\((&self, )?\w+: "),
     ("4b", "a number read and then cut down by `as`", r"read_number\(.*as u8|= name as u8"),
     ("4c", "an arm that turns an error into a default", r"Err\(_\) => (0|None|&\[\]),"),
     ("4d", "a Display of a newtype over a number", r"^struct (Kind|Peer)\(u8\);"),

@@ -13,7 +13,6 @@ pub(crate) fn action(number: u16) -> Event {
     Event::new(Kind::Action, Peer::Environment, number)
 }
 
-// An event with a kind that there is not.
 // An event with a kind that there is not: a number, since `Kind` cannot say it.
 pub(crate) fn unknown(kind: u8) -> Event {
     Event {
