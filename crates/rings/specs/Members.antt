@@ -1,10 +1,10 @@
 -- Rings and what a walk has met, as lists.
-use Rattle.std.specs.Prelude.{◌≡◌, ℕ, ◌<◌, List, length, drop, ◌≢◌, slice_index, slice_index_or}
+use Rattle.std.specs.Prelude.{◌≡◌, ℕ, ◌<◌, List, length, take, ◌≢◌, slice_index, slice_index_or}
 use Rattle.rings.specs.declared.parts.Ring.{Ring}
 
 -- the instances of a ring
 abbrev pub members_of : Ring → List ℕ
-members_of r = drop r.start r.path.items
+members_of r = take r.len r.cells
 
 -- the first x of the list stands at k
 pub record FirstAt (met : List ℕ) (x k : ℕ) : Type 0 where

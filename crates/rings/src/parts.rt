@@ -1,11 +1,10 @@
 ghost use Rattle.std.specs.Prelude.{◌≤◌, length};
 
-use arrayvec::ArrayVec;
-
-// Instances that wait for each other: those that a walk has met, from the start on.
-#[derive(Drop)]
+// Instances that wait for each other, in the order in which a walk met them.
+// An array and a length, and no `ArrayVec`, which is not `Copy`.
+#[derive(Clone, Copy)]
 pub struct Ring {
-    pub(crate) path: ArrayVec<u8, 32>,
-    pub(crate) start: usize,
-    ghost ordered: { start ≤ length path.items },
+    pub(crate) cells: [u8; 32],
+    pub(crate) len: usize,
+    ghost within: { len ≤ length cells },
 }

@@ -5,7 +5,6 @@ ghost use Rattle.rings.specs.Walks.{ring_of};
 
 use crate::parts::Ring;
 use crate::walk::walk;
-use arrayvec::ArrayVec;
 use rules::Board;
 
 impl Ring {
@@ -14,8 +13,21 @@ impl Ring {
         ensures { members_of result ≡ [] }
     {
         Ring {
-            path: ArrayVec::new(),
-            start: 0,
+            cells: [0; 32],
+            len: 0,
+        }
+    }
+
+    // The ring of these instances.
+    pub(crate) fn from_members(members: &[u8]) -> Ring
+        requires { length members.now ≤ 32 }
+        ensures { members_of result ≡ members.now }
+    {
+        let mut cells = [0; 32];
+        cells[..members.len()].copy_from_slice(members);
+        Ring {
+            cells,
+            len: members.len(),
         }
     }
 
@@ -32,6 +44,6 @@ impl Ring {
         ensures value { result.now ≡ members_of self.now }
         ensures fits { length result.now ≤ 32 }
     {
-        &self.path[self.start..]
+        &self.cells[..self.len]
     }
 }

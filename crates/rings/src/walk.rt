@@ -33,7 +33,7 @@ pub(crate) fn walk(board: &Board, from: usize) -> Ring
     let mut x = from;
     while x < board.width() {
         if let Some(start) = find(path.as_slice(), x as u8) {
-            return Ring { path, start };
+            return Ring::from_members(&path[start..]);
         }
         x = meet(board, &mut path, x);
     }

@@ -13,8 +13,10 @@ mod row;
 mod rows;
 mod starting;
 mod stepping;
+mod steps;
 
 pub use board::Board;
 pub use held::Held;
 pub use row::Row;
 pub use rows::Rows;
+pub use steps::Steps;

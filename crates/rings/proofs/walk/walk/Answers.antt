@@ -1,5 +1,5 @@
-use Rattle.std.proofs.Common.{ℕ, List, length, sym, ◌∙◌, subst, arith}
-use Rattle.std.proofs.lemmas.List.{length_push}
+use Rattle.std.proofs.Common.{ℕ, List, length, drop, sym, ap, ◌∙◌, subst, arith}
+use Rattle.std.proofs.lemmas.List.{length_push, take_rest}
 use Rattle.copies.specs.Kept.{kept}
 use Rattle.copies.proofs.Kept.{kept_sound}
 use Rattle.rules.specs.Places.{place_of}
@@ -21,7 +21,7 @@ overflow_cast-x c = let few = (kept_sound c.args.board.now.copy).few_instances i
 pub returns-in-Some : goal.returns-in-Some
 returns-in-Some c =
     let t = c.loop-x in
-    turns_twice _ _ _ t.path.items t.x t.invariant (omega arith) c.in-Some.start
+    c.from_members.ensures ∙ take_rest c.deref.result.now c.in-Some.start ∙ ap (drop c.in-Some.start) c.deref.ensures.0 ∙ turns_twice _ _ _ t.path.items t.x t.invariant (omega arith) c.in-Some.start
     (subst (λ (met : List ℕ). FirstAt met t.x c.in-Some.start) c.as_slice.ensures.value c.in-Some.ensures)
 
 pub meet-x-requires : goal.meet-x-requires
