@@ -10,7 +10,7 @@ pub enum Peer {
     Environment,
 }
 
-// The byte of the environment.
+// The byte of the environment: the number that tables have for it, read and written here alone.
 const ENVIRONMENT: u8 = 255;
 
 impl Peer {

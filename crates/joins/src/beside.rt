@@ -7,6 +7,7 @@ use crate::weighing::{limited, weigh};
 use charts::{Chart, Event, Fault, Layer, NO_EVENT, Summary};
 
 // The instances of the left chart, then those of the right one.
+// Not one type with `After`: they differ in width, place and moving, and not by a constant.
 #[derive(Drop)]
 pub struct Beside<A, B> {
     left: A,

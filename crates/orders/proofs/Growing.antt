@@ -50,6 +50,10 @@ module _ (P : List ℕ → ℕ → Type 0) (stays : Stays P) where
       ])
       w
 
+  -- two ended ones are equally far
+  pub ends_level : (e g : List ℕ) → Steps P e → ((i : ℕ) → P e i → ⊥) → Steps P g → ((i : ℕ) → P g i → ⊥) → (i : ℕ) → pos g i ≡ pos e i
+  ends_level e g oe ee og eg i = let a = greatest_end e ee g og i in let b = greatest_end g eg e oe i in omega arith
+
   -- the positions of two histories, the larger ones
   pub record Joined (h w v : List ℕ) : Type 0 where
     pub order : Steps P (h ++ v)

@@ -1,7 +1,7 @@
 -- The latest place of an event is found by the drive that never makes it.
-use Rattle.std.proofs.Common.{◌≡◌, ℕ, suc, ◌+◌, ◌<◌, ◌≤◌, true, not, ◌&&◌, eqb, List, [], ◌∷◌, ◌++◌, length, sym, refl, ap, ◌∙◌, subst, inl, inr, arith}
-use Rattle.std.proofs.lemmas.List.{append_assoc, length-append}
-use Rattle.std.proofs.lemmas.Bool.{cases_Bool, cases_eq, eq-eqb, eqb-true, and_parts, and_from, not-true, not_from_false, both_ways}
+use Rattle.std.proofs.Common.{◌≡◌, ℕ, suc, ◌+◌, ◌<◌, ◌≤◌, true, not, ◌&&◌, eqb, List, ◌++◌, length, subst, inl, inr, arith}
+use Rattle.std.proofs.lemmas.List.{length-append}
+use Rattle.std.proofs.lemmas.Bool.{cases_Bool, eq-eqb, eqb-true, and_parts, and_from, not-true, not_from_false, both_ways}
 use Rattle.charts.specs.declared.parts.Event.{Event}
 use Rattle.charts.specs.Lists.{count_of, size}
 use Rattle.charts.specs.Sound.{Sound}
@@ -14,33 +14,12 @@ use Rattle.orders.specs.Latest.{Other, Latest}
 use Rattle.orders.specs.Deciding.{may_now_at}
 use Rattle.orders.specs.Driving.{driven, other_now, latest_place}
 use Rattle.orders.specs.Theorems.{Blocked, BlockedDriveFindsLatest}
-use Rattle.orders.proofs.Positions.{pos_append, pos_step, pos_stay, by_steps}
-use Rattle.orders.proofs.Growing.{steps_front, steps_last}
 use Rattle.orders.proofs.Monotone.{may_stays}
-use Rattle.orders.proofs.Latest.{never_passed, reached}
 use Rattle.orders.proofs.Decided.{may_unfinished}
-use Rattle.orders.proofs.Onwards.{Onwards, onwards_weaker, onwards_steps}
+use Rattle.orders.proofs.Onwards.{onwards_weaker}
 use Rattle.orders.proofs.Drives.{Tested, driven_drive, drive_ends}
-use Rattle.orders.proofs.Verdicts.{may_tested, order_within, order_full}
-
--- steps after h other than event k of instance i leave it unmade
-event_unmade : (P : List ℕ → ℕ → Type 0) (i k : ℕ) (h : List ℕ) → pos h i ≤ k → (w : List ℕ) → Onwards (Other P i k) h w → pos (h ++ w) i ≤ k
-event_unmade P i k h low w =
-    by_steps (λ x. Onwards (Other P i k) h x → pos (h ++ x) i ≤ k) (λ _. let a = pos_append h [] i in omega arith)
-    (λ u j before o.
-    let a = before (steps_front (λ x. Other P i k (h ++ x)) u (j ∷ []) o) in
-    let b = steps_last (λ x. Other P i k (h ++ x)) u j o in
-    let c = ap (λ (x : List ℕ). pos x i) (append_assoc h u (j ∷ [])) in
-    elim (cases_eq j i) [
-      | inl same ↦
-          let d = pos_step (h ++ u) j in
-          let e = ap (pos ((h ++ u) ++ (j ∷ []))) same in
-          let f = ap (pos (h ++ u)) same in
-          let g : pos (h ++ u) i ≡ k → ⊥ = b.other same in
-          omega (arith, g)
-      | inr other ↦ let d = pos_stay (h ++ u) j i other in omega arith
-    ])
-    w
+use Rattle.orders.proofs.Finishing.{blocked_finds}
+use Rattle.orders.proofs.Verdicts.{full_whole, whole_full, may_tested, order_within}
 
 -- there is one latest place
 pub latest_one : (M : Carry) (L : List (List Event)) (h : List ℕ) (i k n m : ℕ) → Latest M L h i k n → Latest M L h i k m → n ≡ m
@@ -88,22 +67,13 @@ module _ (M : Carry) (L : List (List Event)) (sound : Sound L) where
   module _ (h : List ℕ) (o : Order M L h) (i k : ℕ) (low : pos h i ≤ k) (high : k < count_of L i) (f : List ℕ) (full : Full M L f) where
     pub blocked_latest : (w : List ℕ) → Blocked M L h i k w → Latest M L h i k (suc (length (h ++ w)))
     blocked_latest w b =
-        let P = May M L in
-        let g = h ++ w in
-        let order = onwards_steps P h w o (onwards_weaker (Other P i k) P (λ u j a. a.can) h w b.steps) in
-        let due = full.done i in
-        let r = reached P (may_stays M L) i k g order b.ended (event_unmade P i k h low w b.steps) f full.order (omega arith) in
-        let regroup = append_assoc g (i ∷ []) r.more ∙ append_assoc h w (i ∷ r.more) in
-        let whole : Full M L ((g ++ (i ∷ [])) ++ r.more) =
-        order_full M L sound ((g ++ (i ∷ [])) ++ r.more) r.order (λ j _. let a = r.places j in let d = full.done j in omega arith) in
+        let p =
+        blocked_finds (May M L) L (may_stays M L) (may_unfinished L sound M) h o i k low high f (full_whole M L f full) w b.steps b.ended in
         record {
-          never_later = λ v m f' p.
-              let a = never_passed P (may_stays M L) i k g b.ended p.before p.after (subst (Order M L) p.is f'.order) p.listed in
-              let c = p.place in
-              omega arith;
-          more = w ++ (i ∷ r.more);
-          full = subst (Full M L) regroup whole;
-          reached = record { before = g; after = r.more; is = sym (append_assoc h w (i ∷ r.more)); listed = r.at; place = refl };
+          never_later = λ v m f'. p.never_later v m (full_whole M L (h ++ v) f');
+          more = p.more;
+          full = whole_full M L (h ++ p.more) p.whole;
+          reached = p.reached;
         }
 
     pub driven_latest : (n : ℕ) → size L ≤ length h + n → Latest M L h i k (suc (length h + length (driven (other_now M L i k) (length L) n (pos h))))

@@ -13,5 +13,6 @@ pub mod Lengths
 pub mod Driving
 pub mod Onwards
 pub mod Drives
+pub mod Finishing
 pub mod Verdicts
 pub mod LatestPlace

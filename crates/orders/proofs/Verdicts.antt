@@ -1,7 +1,6 @@
 -- What a drive after an order decides.
-use Rattle.std.proofs.Common.{◌≡◌, ℕ, ◌+◌, ◌<◌, ◌≤◌, List, [], ◌++◌, length, refl, ap, inl, inr, arith}
-use Rattle.std.proofs.lemmas.List.{get_or_past}
-use Rattle.std.proofs.lemmas.Bool.{cases_lt, ltb-false}
+use Rattle.std.proofs.Common.{◌≡◌, ℕ, ◌+◌, ◌<◌, ◌≤◌, List, ◌++◌, length, refl, arith}
+use Rattle.std.proofs.lemmas.Bool.{ltb-false}
 use Rattle.charts.specs.declared.parts.Event.{Event}
 use Rattle.charts.specs.Lists.{count_of, event_of, size}
 use Rattle.charts.specs.Sound.{Sound}
@@ -13,28 +12,31 @@ use Rattle.orders.specs.Drives.{Least, Drives}
 use Rattle.orders.specs.Deciding.{may_now_at, unfinished}
 use Rattle.orders.specs.Driving.{lowest, driven}
 use Rattle.orders.specs.Theorems.{EndIsGreatest, DriveDecides, StateIsOne}
-use Rattle.orders.proofs.Growing.{greatest_end}
+use Rattle.orders.proofs.Growing.{greatest_end, ends_level}
 use Rattle.orders.proofs.Monotone.{may_stays}
 use Rattle.orders.proofs.Decided.{at_width, state, may_unfinished, waits_unfinished, may_or_waits, waits_for_one, waited_unfinished}
 use Rattle.orders.proofs.Deciding.{true_may, may_true, waits_level}
 use Rattle.orders.proofs.Lengths.{within_length, done_length}
 use Rattle.orders.proofs.Lowest.{lowest_least}
-use Rattle.orders.proofs.Onwards.{onwards_weaker, onwards_steps, onwards_within}
-use Rattle.orders.proofs.Drives.{Tested, ended_one, driven_drive, drive_driven, drive_ends, drive_ends_anywhere}
+use Rattle.orders.proofs.Onwards.{onwards_weaker, onwards_steps}
+use Rattle.orders.proofs.Drives.{Tested, driven_drive, drive_driven, drive_ends, drive_ends_anywhere}
+use Rattle.orders.proofs.Finishing.{Whole, steps_within, steps_whole, end_whole, drive_tells}
 
--- two ended orders are equally far
-end_level : (M : Carry) (L : List (List Event)) (e g : List ℕ) → Order M L e → Ended M L e → Order M L g → Ended M L g → (i : ℕ) → pos g i ≡ pos e i
-end_level M L e g oe ee og eg i =
-    let a = greatest_end (May M L) (may_stays M L) e ee g og i in let b = greatest_end (May M L) (may_stays M L) g eg e oe i in omega arith
+-- a full order is a whole one of the steps that may run
+pub full_whole : (M : Carry) (L : List (List Event)) (h : List ℕ) → Full M L h → Whole (May M L) L h
+full_whole M L h f = record { order = f.order; done = f.done }
+
+pub whole_full : (M : Carry) (L : List (List Event)) (h : List ℕ) → Whole (May M L) L h → Full M L h
+whole_full M L h f = record { order = f.order; done = f.done }
 
 pub end_is_greatest : EndIsGreatest
 end_is_greatest M L e oe ee =
     record {
       above = greatest_end (May M L) (may_stays M L) e ee;
-      level = λ g og eg. end_level M L e g oe ee og eg;
+      level = λ g og eg. ends_level (May M L) (may_stays M L) e g oe ee og eg;
       waits = λ g og eg i j. (
-        waits_level M L g e (end_level M L e g oe ee og eg) i j,
-        waits_level M L e g (end_level M L g e og eg oe ee) i j,
+        waits_level M L g e (ends_level (May M L) (may_stays M L) e g oe ee og eg) i j,
+        waits_level M L e g (ends_level (May M L) (may_stays M L) g e og eg oe ee) i j,
       );
     }
 
@@ -69,7 +71,7 @@ module _ (M : Carry) (L : List (List Event)) (sound : Sound L) where
 
   -- an order stays within the lists
   pub order_within : (h : List ℕ) → Order M L h → (i : ℕ) → pos h i ≤ count_of L i
-  order_within h o = onwards_within (May M L) L (may_unfinished L sound M) [] [] (λ i. omega arith) (λ i. omega arith) h o
+  order_within = steps_within (May M L) L (may_stays M L) (may_unfinished L sound M)
 
   pub order_length : (h : List ℕ) → Order M L h → length h ≤ size L
   order_length h o = within_length L h (order_within h o)
@@ -79,14 +81,7 @@ module _ (M : Carry) (L : List (List Event)) (sound : Sound L) where
 
   -- an order is full where no instance has an event left
   pub order_full : (h : List ℕ) → Order M L h → ((i : ℕ) → i < length L → count_of L i ≤ pos h i) → Full M L h
-  order_full h o done =
-      record {
-        order = o;
-        done = λ i.
-            let a = order_within h o i in
-            elim (cases_lt i (length L))
-            [ inl l ↦ let b = done i l in omega arith | inr l ↦ let z = ap length (get_or_past L i [] l) in omega arith ];
-      }
+  order_full h o done = whole_full M L h (steps_whole (May M L) L (may_stays M L) (may_unfinished L sound M) h o done)
 
   -- so it is where the search for an unfinished instance finds none
   pub none_unfinished : (h : List ℕ) → Order M L h → length L ≤ lowest (unfinished L (pos h)) (length L) → Full M L h
@@ -95,8 +90,7 @@ module _ (M : Carry) (L : List (List Event)) (sound : Sound L) where
 
   -- where a full order exists, every order that has ended is full
   pub ended_full : (h : List ℕ) → Order M L h → Ended M L h → (f : List ℕ) → Full M L f → Full M L h
-  ended_full h o e f full =
-      order_full h o (λ i _. let a = greatest_end (May M L) (may_stays M L) h e f full.order i in let b = full.done i in omega arith)
+  ended_full h o e f full = whole_full M L h (end_whole (May M L) L (may_stays M L) (may_unfinished L sound M) h o e f (full_whole M L f full))
 
   -- an order with the steps of a drive is an order
   pub driven_order : (h : List ℕ) → Order M L h → (n : ℕ) → Order M L (h ++ driven (may_now_at M L) (length L) n (pos h))
@@ -125,14 +119,13 @@ module _ (M : Carry) (L : List (List Event)) (sound : Sound L) where
 pub drive_decides : DriveDecides
 drive_decides M L sound h o =
     let w = driven (may_now_at M L) (length L) (size L) (pos h) in
-    let ended = driven_ended M L sound h o (size L) (omega arith) in
-    let first = (drives M L sound h (size L)).lowest in (
+    let d = drive_tells (May M L) L (may_stays M L) (may_unfinished L sound M) (may_now_at M L) (length L) (may_tested M L sound) h o in (
       w,
       record {
-        lowest = first;
-        ended = ended;
-        only = λ v low stops. ended_one (May M L) h v w low first stops ended;
-        reached = driven_full M L sound h o (size L) (omega arith);
+        lowest = d.lowest;
+        ended = d.ended;
+        only = d.only;
+        reached = λ f full. whole_full M L (h ++ w) (d.reached f (full_whole M L f full));
         exists = λ full. (h ++ w, full);
       },
     )

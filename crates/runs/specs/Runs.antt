@@ -2,8 +2,7 @@
 use Rattle.std.specs.Prelude.{◌≡◌, ℕ, List, Option, Result}
 use Rattle.charts.specs.declared.parts.Event.{Event}
 use Rattle.charts.specs.declared.faults.Fault.{Fault}
-use Rattle.copies.specs.Kept.{kept}
-use Rattle.rules.specs.Places.{place_of}
+use Rattle.rules.specs.Boards.{lists_of as board_lists, positions as board_positions}
 use Rattle.runs.specs.declared.run.Run.{Run}
 use Rattle.runs.specs.declared.parts.Refusal.{Refusal}
 use Rattle.runs.specs.Stands.{Stands}
@@ -11,7 +10,7 @@ use Rattle.runs.specs.Tells.{Tells}
 
 -- the lists of its chart
 abbrev pub lists_of : {M : Type 0} → Run M → List (List Event)
-lists_of run = kept run.board.copy
+lists_of run = board_lists run.board
 
 -- the fault of its chart
 abbrev pub fault_of : {M : Type 0} → Run M → Option Fault
@@ -19,7 +18,7 @@ fault_of run = run.board.copy.fault
 
 -- the position of each instance
 abbrev pub positions : {M : Type 0} → Run M → ℕ → ℕ
-positions run = place_of run.board.rows.table
+positions run = board_positions run.board
 
 -- it stands where the history h leads
 abbrev pub StandsAfter : {M : Type 0} → Run M → List ℕ → Type 0

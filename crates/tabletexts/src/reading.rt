@@ -19,7 +19,8 @@ pub fn cut(text: &[u8], separator: u8) -> (&[u8], Option<&[u8]>)
     }
 }
 
-// The number that the field writes in decimal, where it is at most `most`. Digit by digit: `parse` would take a sign.
+// The number that the field writes in decimal, where it is at most `most`.
+// Digit by digit: a field is bytes and no `str`, which `parse` wants, and `parse` would take a sign.
 pub fn read_number(field: &[u8], most: u16) -> Option<u16>
     ensures value { result ≡ number_in most field.now }
     ensures bound { IfSome result (λ n. n ≤ most) }

@@ -22,3 +22,11 @@ over = (event output 1 0 ∷ event output 1 1 ∷ []) ∷ (event input 0 1 ∷ e
 -- one message
 abbrev pub hop : List (List Event)
 hop = (event output 1 0 ∷ []) ∷ (event input 0 0 ∷ []) ∷ []
+
+-- a log that waits for the first of two instances that each take the other's message before they send their own
+abbrev pub behind : List (List Event)
+behind =
+    (event input 1 2 ∷ [])
+    ∷ (event input 2 0 ∷ event output 2 1 ∷ event output 0 2 ∷ [])
+    ∷ (event input 1 1 ∷ event output 1 0 ∷ [])
+    ∷ []

@@ -7,7 +7,7 @@ use Rattle.media.specs.Media.{free, line, narrow}
 use Rattle.orders.specs.Orders.{Order, Ended, Full}
 use Rattle.orders.specs.Rings.{Ring}
 use Rattle.orders.specs.Latest.{Latest}
-use Rattle.worked.specs.Charts.{late, cross, over, hop}
+use Rattle.worked.specs.Charts.{late, cross, over, hop, behind}
 
 -- the order e has ended with the ring r, and no order is full
 pub record Stuck (M : Carry) (L : List (List Event)) (e r : List ℕ) : Type 0 where
@@ -23,6 +23,7 @@ pub record SmallCharts : Type 0 where
   pub cross_sound : Sound cross
   pub over_sound : Sound over
   pub hop_sound : Sound hop
+  pub behind_sound : Sound behind
   -- late has a full order; the latest places of the log's text, its input, the siren's ring and its sound
   pub late_full : Full free late (0 ∷ 1 ∷ 2 ∷ 1 ∷ 2 ∷ [])
   pub late_text : Latest free late [] 0 0 3
@@ -38,3 +39,5 @@ pub record SmallCharts : Type 0 where
   pub over_room_for_two : Full (narrow 2 free) over (0 ∷ 0 ∷ 1 ∷ 1 ∷ [])
   -- hop is stuck where the bus has no room
   pub hop_no_room : Stuck (narrow 0 free) hop [] (0 ∷ 1 ∷ [])
+  -- behind is stuck at once: the log waits, and is not of the ring
+  pub behind_stuck : Stuck free behind [] (1 ∷ 2 ∷ [])
