@@ -62,6 +62,7 @@ module _ (M : Carry) (L : List (List Event)) (sound : Sound L) where
         order = order;
         goes_on = λ f full. (driven (may_now_at M L) (length L) (size L) (pos h), driven_full M L sound h order (size L) (omega arith) f full);
         call = m.call;
+        room = m.room;
         answered = subst (λ (a : Option Answer). Answers t M L h x.call (vec_items x.buffer) a (vec_items y.buffer)) (sym m.noted) m.made.answered;
         history = m.made.history;
         only = λ k a. after_one t h x.call room m.made.next k m.made.history a;

@@ -1,5 +1,6 @@
 -- What one turn makes of a run.
 use Rattle.std.specs.Prelude.{◌≡◌, ℕ, List, length, Some, vec_items, Option}
+use Rattle.std.specs.Vec.{with_items}
 use Rattle.charts.specs.declared.parts.Event.{Event}
 use Rattle.charts.specs.declared.faults.Fault.{Fault}
 use Rattle.media.specs.Carry.{Carry}
@@ -23,4 +24,6 @@ pub record Makes (t : Option Fault) (M : Carry) (L : List (List Event)) (h : Lis
   pub call : y.call ≡ x.call
   pub answer : Answer
   pub noted : y.answer ≡ Some answer
+  -- the buffer has the room that it had
+  pub room : y.buffer ≡ with_items x.buffer (vec_items y.buffer)
   pub made : MakesCall t M L h x.call (vec_items x.buffer) answer (vec_items y.buffer) rows

@@ -1,5 +1,6 @@
 -- The whole promise: what a list of calls on a new run answers and writes.
 use Rattle.std.specs.Prelude.{◌≡◌, ℕ, List, [], ◌∷◌, ◌++◌, length, vec_items, Option}
+use Rattle.std.specs.Vec.{with_items}
 use Rattle.charts.specs.declared.parts.Event.{Event}
 use Rattle.charts.specs.declared.faults.Fault.{Fault}
 use Rattle.media.specs.Carry.{Carry}
@@ -15,6 +16,8 @@ pub record TurnMade (t : Option Fault) (M : Carry) (L : List (List Event)) (h : 
   pub goes_on : (f : List ℕ) → Full M L f → (v : List ℕ) × Full M L (h ++ v)
   -- the call is as it was, and answered as the history fixes
   pub call : y.call ≡ x.call
+  -- its buffer has the room that it had: nothing was allocated for it
+  pub room : y.buffer ≡ with_items x.buffer (vec_items y.buffer)
   pub answered : Answers t M L h x.call (vec_items x.buffer) y.answer (vec_items y.buffer)
   -- there is one history after it
   pub history : After t M L h x.call (length (vec_items x.buffer)) g

@@ -23,6 +23,7 @@ returns g c =
             call = refl;
             answer = m.result;
             noted = refl;
+            room = ap (with_items x.buffer) (sym is);
             made =
                 subst (λ (out : List ℕ). MakesCall b.copy.fault M L h x.call out m.result (vec_items (with_items x.buffer m.new.buffer)) rows) was
                 (subst (λ (out : List ℕ). MakesCall b.copy.fault M L h x.call c.as_mut_slice.result.now m.result out rows) (sym is) (m.ensures.makes h s));
