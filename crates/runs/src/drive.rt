@@ -1,9 +1,9 @@
-ghost use Rattle.std.specs.Prelude.{◌≡◌, Ok};
+ghost use Rattle.std.specs.Prelude.{◌≡◌};
 ghost use Rattle.runs.specs.Endings.{ending_of};
-ghost use Rattle.runs.specs.Runs.{fault_of, lists_of, positions, KeepsChart, TellsAfter};
-ghost use Rattle.runs.specs.Moves.{DriveMoves, RestartMoves};
+ghost use Rattle.runs.specs.Runs.{lists_of, positions, KeepsChart, TellsAfter};
+ghost use Rattle.runs.specs.Moves.{DriveMoves};
 ghost use Rattle.runs.specs.Drives.{DriveAnswers};
-ghost use Rattle.runs.specs.Tells.{Tells, RefusalKeeps};
+ghost use Rattle.runs.specs.Tells.{RefusalKeeps};
 
 use crate::parts::{Drove, Ending, Refusal};
 use crate::run::Run;
@@ -41,17 +41,5 @@ impl<M: Medium> Run<M> {
         let made = self.board.drive(&self.medium, None, &mut buffer[0..n]);
         let ending = self.ending(made, n);
         Ok(Drove { made, ending })
-    }
-
-    // Sets every position to 0, as when new.
-    pub fn restart(&mut self) -> Result<(), Refusal>
-        ensures tells { Tells (fault_of self.old) (λ a. a ≡ Ok tt) result }
-        ensures keeps { KeepsChart self.old self.new }
-        ensures moves { RestartMoves (positions self.old) (positions self.new) result }
-        ensures refused { RefusalKeeps result self.old self.new }
-    {
-        self.check()?;
-        self.board.restart();
-        Ok(())
     }
 }

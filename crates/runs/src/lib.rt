@@ -7,6 +7,7 @@ mod judge;
 mod latest;
 mod parts;
 mod replaying;
+mod restart;
 mod run;
 mod step;
 mod turns;
