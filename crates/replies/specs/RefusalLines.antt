@@ -2,7 +2,7 @@
 use Rattle.std.specs.Prelude.{ℕ, List, ◌∷◌, codes, decimal, map}
 use Rattle.charts.specs.Texts.{spaced}
 use Rattle.runs.specs.declared.parts.Refusal.{Refusal}
-use Rattle.runs.specs.declared.parts.Refusal.TheVariants.{Spoiled, NoInstance, NothingLeft, MustWait, ShortBuffer, NoEvent, HasRun, NoFullOrder}
+use Rattle.runs.specs.declared.parts.Refusal.TheVariants.{Spoiled}
 use Rattle.runs.specs.Refusals.{told}
 
 -- the word before the numbers: of a spoiled chart, or of any other

@@ -2,6 +2,9 @@
 #![tactic(auto)]
 
 mod answers;
+mod lines;
 mod refusals;
+#[cfg(test)]
+mod tests;
 
-pub use refusals::refusal_number;
+pub use lines::{reply_line, reply_lines};

@@ -6,7 +6,7 @@ use runs::Refusal;
 use std::fmt;
 
 // The number of a refusal, of a spoiled chart that of its fault.
-pub fn refusal_number(refusal: Refusal) -> u8
+fn refusal_number(refusal: Refusal) -> u8
     ensures { result ≡ get_or (told refusal) 0 0 }
 {
     match refusal {
