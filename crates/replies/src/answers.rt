@@ -1,7 +1,7 @@
 ghost use Rattle.std.specs.Prelude.{◌≡◌, Some, take};
 ghost use Rattle.replies.specs.AnswerLines.{answer_line, each_after_a_space, ending_word};
 
-use crate::refusals::Refused;
+use crate::refusals::Told;
 use charts::Peer;
 use listings::kind_name;
 use runs::{Answer, Ending, Verdict};
@@ -10,6 +10,15 @@ use std::fmt;
 // Instances, shown with a space before each.
 #[derive(Drop)]
 struct Instances<'b>(&'b [u8]);
+
+impl<'b> Instances<'b> {
+    // So many as a call wrote at the start of its buffer; all of the buffer where it has fewer, which no answer says.
+    fn written(count: usize, buffer: &'b [u8]) -> Instances<'b>
+        ensures { result.0.now ≡ take count buffer.now }
+    {
+        Instances(&buffer[..count.min(buffer.len())])
+    }
+}
 
 impl<'b> fmt::Display for Instances<'b> {
     ghost output = { λ r. Some (each_after_a_space r.0.now) };
@@ -21,13 +30,6 @@ impl<'b> fmt::Display for Instances<'b> {
         }
         Ok(())
     }
-}
-
-// So many of a buffer's bytes, all where it has fewer.
-fn first(buffer: &[u8], count: usize) -> Instances
-    ensures { result.0.now ≡ take count buffer.now }
-{
-    Instances(&buffer[..count.min(buffer.len())])
 }
 
 // How a drive ended, in a word.
@@ -61,18 +63,18 @@ impl<'b> fmt::Display for Reply<'b> {
             }
             Answer::Driven(drove) => {
                 let word = ending_word(drove.ending);
-                let instances = first(self.buffer, drove.made);
+                let instances = Instances::written(drove.made, self.buffer);
                 write!(f, "drove {} {word}{instances}", drove.made)
             }
             Answer::Restarted => f.write_str("restarted"),
             Answer::Judged(Verdict::Runs(length)) => {
-                write!(f, "runs{}", first(self.buffer, length))
+                write!(f, "runs{}", Instances::written(length, self.buffer))
             }
             Answer::Judged(Verdict::Stuck(length)) => {
-                write!(f, "stuck{}", first(self.buffer, length))
+                write!(f, "stuck{}", Instances::written(length, self.buffer))
             }
             Answer::Place(place) => write!(f, "latest {place}"),
-            Answer::Refused(refusal) => write!(f, "{}", Refused(refusal)),
+            Answer::Refused(refusal) => write!(f, "{}", Told(refusal)),
         }
     }
 }

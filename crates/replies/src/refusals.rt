@@ -23,9 +23,9 @@ fn refusal_number(refusal: Refusal) -> u8
 
 // A refusal, shown by what it tells.
 #[derive(Drop)]
-pub(crate) struct Refused(pub Refusal);
+pub(crate) struct Told(pub Refusal);
 
-impl fmt::Display for Refused {
+impl fmt::Display for Told {
     ghost output = { λ r. Some (refusal_line r.0) };
 
     fn fmt<W: fmt::Write>(&self, f: &mut fmt::Formatter<W>) -> fmt::Result {
