@@ -26,7 +26,7 @@ abbrev pub verdict_word : Verdict → List ℕ
 verdict_word (Runs n) = codes "runs"
 verdict_word (StuckAt n) = codes "stuck"
 
--- what a call answered, and the instances that it wrote at the start of its buffer
+-- what a call answered, and the instances that it wrote at the start of its buffer; all that the buffer holds, where that is fewer than the answer says
 abbrev pub answer_line : Answer → List ℕ → List ℕ
 answer_line (Stepped e) out = spaced (codes "stepped" ∷ kind_name e.kind ∷ peer_name e.peer ∷ decimal e.number ∷ [])
 answer_line (Driven d) out = spaced (codes "drove" ∷ decimal d.made ∷ ending_word d.ending ∷ map decimal (take d.made out))
