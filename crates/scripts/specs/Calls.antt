@@ -1,7 +1,8 @@
--- The call that a word with its operands writes, and the length of the buffer that it is handed.
-use Rattle.std.specs.Prelude.{ℕ, cond, List, None, codes, Option}
+-- The call that a line writes, a word and its operands, and the length of the buffer that it is handed.
+use Rattle.std.specs.Prelude.{ℕ, cond, List, [], ◌∷◌, None, codes, Option}
 use Rattle.std.specs.Option.{option_map}
 use Rattle.std.specs.Str.{bytes_eq}
+use Rattle.tabletexts.specs.Table.{fields}
 use Rattle.runs.specs.declared.calls.Call.{Call}
 use Rattle.runs.specs.declared.calls.Call.TheVariants.{Step, Drive, Restart, Judge, Latest}
 use Rattle.scripts.specs.Operands.{no_operand, one_number, two_numbers}
@@ -30,3 +31,12 @@ call_by w fs =
     (cond (bytes_eq w (codes "restart")) (no_operand (Restart, 0) fs)
     (cond (bytes_eq w (codes "judge")) (judge_in fs)
     (cond (bytes_eq w (codes "latest")) (latest_in fs) None))))
+
+-- the call in the fields of a line
+abbrev pub call_in : List (List ℕ) → Option (Call × ℕ)
+call_in [] = None
+call_in (w ∷ fs) = call_by w fs
+
+-- the call on a line
+abbrev pub call_on : List ℕ → Option (Call × ℕ)
+call_on line = call_in (fields line)

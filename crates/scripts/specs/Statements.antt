@@ -1,24 +1,27 @@
--- What a line of a script writes.
-use Rattle.std.specs.Prelude.{ℕ, List, [], ◌∷◌, None, Option}
+-- The statement that a line of a script writes.
+use Rattle.std.specs.Prelude.{◌≡◌, ℕ, List, Some, Option}
 use Rattle.std.specs.Option.{option_map, option_or}
-use Rattle.tabletexts.specs.Table.{fields}
-use Rattle.piletexts.specs.Commands.{command_by}
+use Rattle.runs.specs.declared.calls.Call.{Call as RunCall}
+use Rattle.piletexts.specs.Commands.{command_on}
+use Rattle.piletexts.specs.declared.parts.Command.{Command}
+use Rattle.scripts.specs.declared.parts.MediumCommand.{MediumCommand}
 use Rattle.scripts.specs.declared.parts.Statement.{Statement}
 use Rattle.scripts.specs.declared.parts.Statement.TheVariants.{Pile, Medium, Call}
-use Rattle.scripts.specs.MediumLines.{medium_by}
-use Rattle.scripts.specs.Calls.{call_by}
+use Rattle.scripts.specs.MediumLines.{medium_on}
+use Rattle.scripts.specs.Calls.{call_on}
+
+-- a call with the length of its buffer
+abbrev pub call_with : RunCall × ℕ → Statement
+call_with p = Call p.0 p.1
 
 -- a command to the pile, one to the medium, or a call
-abbrev pub statement_by : List ℕ → List (List ℕ) → Option Statement
-statement_by w fs =
-    option_or (option_map Pile (command_by w fs))
-    (option_or (option_map Medium (medium_by w fs)) (option_map (λ p. Call p.0 p.1) (call_by w fs)))
-
--- the statement in the fields of a line
-abbrev pub statement_in : List (List ℕ) → Option Statement
-statement_in [] = None
-statement_in (w ∷ fs) = statement_by w fs
-
--- the statement on a line
 abbrev pub statement_on : List ℕ → Option Statement
-statement_on line = statement_in (fields line)
+statement_on line =
+    option_or (option_map Pile (command_on line))
+    (option_or (option_map Medium (medium_on line)) (option_map call_with (call_on line)))
+
+-- the line writes the statement, whatever else it may write
+pub data Writes (line : List ℕ) : Statement → Type 0 where
+  pile : (c : Command) → command_on line ≡ Some c → Writes line (Pile c)
+  medium : (m : MediumCommand) → medium_on line ≡ Some m → Writes line (Medium m)
+  call : (p : RunCall × ℕ) → call_on line ≡ Some p → Writes line (call_with p)
