@@ -11,7 +11,7 @@ pub struct Script {
 }
 
 // The parts of a script, in their order.
-#[derive(Clone, Copy, PartialEq, Eq, Debug)]
+#[derive(Clone, Copy)]
 pub(crate) enum Part {
     Pile,
     Medium,

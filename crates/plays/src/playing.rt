@@ -1,5 +1,6 @@
 ghost use Rattle.plays.specs.Played.{Plays};
 
+use crate::parts::Script;
 use crate::reading::read_script;
 use runs::{Turn, replay};
 use std::alloc::Global;
@@ -9,8 +10,12 @@ use tabletexts::Unread;
 pub fn play(heap: Global, text: &[u8]) -> Result<Vec<Turn>, Unread>
     ensures { Plays text.now result }
 {
-    let script = read_script(heap, text)?;
-    let mut turns = script.turns;
-    let _ = replay(&script.chart, script.bus, turns.as_mut_slice());
+    let Script {
+        chart,
+        bus,
+        mut turns,
+    } = read_script(heap, text)?;
+    // The medium comes back; no more calls are made over it.
+    let _ = replay(&chart, bus, turns.as_mut_slice());
     Ok(turns)
 }

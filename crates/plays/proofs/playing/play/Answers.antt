@@ -8,7 +8,7 @@ use Rattle.plays.proofs.playing.play.Goals as goal
 
 pub returns : goal.returns
 returns c =
-    let x = c.in_ok-script.script in
+    let x = c.in_ok-chart.field-0 in
     let s = script_of x in
     let was = c.as_mut_slice.ensures.value in
     let now = c.replay.new.turns in
@@ -17,7 +17,7 @@ returns c =
     let is = with_items_is x.turns now long in
     record {
       script = s;
-      writes = c.in_ok-script.ensures;
+      writes = c.in_ok-chart.ensures;
       turns = vec_items x.turns;
       asked = refl;
       history = promise.0;
