@@ -50,7 +50,7 @@ fn late_in_all_five_calls(rt: HostRuntime) -> Result<(), Fail> {
 }
 
 #[test]
-fn the_siren_and_the_log(rt: HostRuntime) -> Result<(), Fail> {
+fn more_entries_push_the_siren_back(rt: HostRuntime) -> Result<(), Fail> {
     check_calls(
         &rt,
         rt.alloc(),
@@ -77,7 +77,11 @@ fn the_siren_and_the_log(rt: HostRuntime) -> Result<(), Fail> {
             ),
             ("latest 2 1", "latest 19"),
         ],
-    )?;
+    )
+}
+
+#[test]
+fn the_log_and_the_bus_wait_for_each_other(rt: HostRuntime) -> Result<(), Fail> {
     check_calls(
         &rt,
         rt.alloc(),
@@ -95,7 +99,7 @@ fn the_siren_and_the_log(rt: HostRuntime) -> Result<(), Fail> {
 }
 
 #[test]
-fn over_on_each_bus(rt: HostRuntime) -> Result<(), Fail> {
+fn over_on_a_line(rt: HostRuntime) -> Result<(), Fail> {
     check_calls(
         &rt,
         rt.alloc(),
@@ -114,7 +118,11 @@ fn over_on_each_bus(rt: HostRuntime) -> Result<(), Fail> {
             ("drive 4 4", "drove 2 stuck 0 0"),
             ("step 1", "refused 43 1"),
         ],
-    )?;
+    )
+}
+
+#[test]
+fn over_on_a_narrow_bus(rt: HostRuntime) -> Result<(), Fail> {
     check_calls(
         &rt,
         rt.alloc(),

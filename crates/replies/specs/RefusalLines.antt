@@ -5,7 +5,7 @@ use Rattle.runs.specs.declared.parts.Refusal.{Refusal}
 use Rattle.runs.specs.declared.parts.Refusal.TheVariants.{Spoiled}
 use Rattle.runs.specs.Refusals.{told}
 
--- the word before the numbers: of a spoiled chart, or of any other
+-- whether the chart is spoiled or only the call refused, in a word
 abbrev pub refusal_word : Refusal → List ℕ
 refusal_word (Spoiled f) = codes "spoiled"
 refusal_word r = codes "refused"

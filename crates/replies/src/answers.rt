@@ -12,7 +12,7 @@ use std::fmt;
 struct Instances<'b>(&'b [u8]);
 
 impl<'b> Instances<'b> {
-    // So many as a call wrote at the start of its buffer; all of the buffer where it has fewer, which no answer says.
+    // The instances that a call wrote at the start of its buffer; all that it holds where they are fewer, which no call answers.
     fn written(count: usize, buffer: &'b [u8]) -> Instances<'b>
         ensures { result.0.now ≡ take count buffer.now }
     {

@@ -5,7 +5,7 @@ ghost use Rattle.replies.specs.RefusalLines.{refusal_line};
 use runs::Refusal;
 use std::fmt;
 
-// The number of a refusal, of a spoiled chart that of its fault.
+// The number of a refusal; of a spoiled chart, its fault's.
 fn refusal_number(refusal: Refusal) -> u8
     ensures { result ≡ get_or (told refusal) 0 0 }
 {
