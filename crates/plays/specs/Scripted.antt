@@ -30,7 +30,7 @@ pub data Scripted : Plan → Standing → Result Script ℕ → Type 0 where
   follow : (p : Plan) (S : List Meaning) (n : ℕ) (l : List ℕ) (ls : List (List ℕ)) (s : Statement) (t : State) (r : Result Script ℕ) →
       statement_on l ≡ Some s → followed s p (standing S (n + 1) ls) ≡ Ok t → Scripted t.plan t.standing r → Scripted p (standing S n (l ∷ ls)) r
 
--- a text writes r, and nothing else: the script r, or the number r of the first line that cannot be read
+-- a text writes r and nothing else: a script, or the number of its first line that cannot be read
 pub record Writes (text : List ℕ) (r : Result Script ℕ) : Type 0 where
   pub made : Scripted fresh (standing [] 0 (lines_of text)) r
   pub only : (q : Result Script ℕ) → Scripted fresh (standing [] 0 (lines_of text)) q → q ≡ r
