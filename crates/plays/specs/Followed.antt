@@ -25,6 +25,7 @@ before_calls PilePart = true
 before_calls MediumPart = true
 before_calls CallsPart = false
 
+-- a plan, with the stack and the lines that are left
 pub record State : Type 0 where
   pub plan : Plan
   pub standing : Standing

@@ -13,6 +13,7 @@ use Rattle.plays.specs.Scripted.{Writes}
 pub record Played (text : List ℕ) (ys : List Turn) : Type 0 where
   pub script : Script
   pub writes : Writes text (Ok script)
+  -- the turns before any was taken
   pub turns : List Turn
   pub asked : map content turns ≡ script.turns
   pub history : List ℕ

@@ -30,9 +30,10 @@ pub data Scripted : Plan → Standing → Result Script ℕ → Type 0 where
   follow : (p : Plan) (S : List Meaning) (n : ℕ) (l : List ℕ) (ls : List (List ℕ)) (s : Statement) (t : State) (r : Result Script ℕ) →
       statement_on l ≡ Some s → followed s p (standing S (n + 1) ls) ≡ Ok t → Scripted t.plan t.standing r → Scripted p (standing S n (l ∷ ls)) r
 
--- what a text writes
-abbrev pub Writes : List ℕ → Result Script ℕ → Type 0
-Writes text r = Scripted fresh (standing [] 0 (lines_of text)) r
+-- a text writes r and nothing else: a script, or the number of its first line that cannot be read
+pub record Writes (text : List ℕ) (r : Result Script ℕ) : Type 0 where
+  pub made : Scripted fresh (standing [] 0 (lines_of text)) r
+  pub only : (q : Result Script ℕ) → Scripted fresh (standing [] 0 (lines_of text)) q → q ≡ r
 
 -- the answer is what the text writes, by the meaning f of what it holds; only a want of memory says nothing
 abbrev pub Tells : {V : Type 0} → (V → Script) → List ℕ → Result V Unread → Type 0

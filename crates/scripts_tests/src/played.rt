@@ -4,6 +4,7 @@ use plays::{play, read_script};
 use runs::{Answer, Call, Drove, Ending, Refusal, Verdict};
 use std::alloc::Global;
 use std::test::Fail;
+use tabletexts::Unread;
 
 // What the last call of a text answers.
 fn last_answer(heap: Global, text: &[u8]) -> Option<Answer> {
@@ -114,47 +115,35 @@ fn rooms_and_numbers_at_their_ends(rt: HostRuntime) {
     );
 }
 
+// What judge answers over the medium on these lines of a chart in which an instance inputs two messages of another in the other order.
+fn crossed(heap: Global, medium: &[u8]) -> Result<Option<Verdict>, Unread> {
+    let mut text = Vec::new(heap);
+    text.extend_from_slice(b"table\n2 2\n1 1 0\n1 1 1\n2 0 1\n2 0 0\n.\n")?;
+    text.extend_from_slice(medium)?;
+    text.extend_from_slice(b"\njudge 32\n")?;
+    Ok(match last_answer(heap, text.as_slice()) {
+        Some(Answer::Judged(verdict)) => Some(verdict),
+        _ => None,
+    })
+}
+
 #[test]
 fn the_medium_decides(rt: HostRuntime) {
     let heap = rt.alloc();
-    let runs = Some(Answer::Judged(Verdict::Runs(4)));
-    // two messages of one instance to another, input in the other order
-    let cases: [(&[u8], Option<Answer>); 8] = [
-        (b"table\n2 2\n1 1 0\n1 1 1\n2 0 1\n2 0 0\n.\njudge 32", runs),
-        (
-            b"table\n2 2\n1 1 0\n1 1 1\n2 0 1\n2 0 0\n.\nfree\njudge 32",
-            runs,
-        ),
-        (
-            b"table\n2 2\n1 1 0\n1 1 1\n2 0 1\n2 0 0\n.\nline\njudge 32",
-            Some(Answer::Judged(Verdict::Stuck(1))),
-        ),
-        (
-            b"table\n2 2\n1 1 0\n1 1 1\n2 0 1\n2 0 0\n.\nnarrow 2\njudge 32",
-            runs,
-        ),
-        (
-            b"table\n2 2\n1 1 0\n1 1 1\n2 0 1\n2 0 0\n.\nnarrow 1\njudge 32",
-            Some(Answer::Judged(Verdict::Stuck(2))),
-        ),
+    let cases: [(&[u8], Verdict); 8] = [
+        (b"", Verdict::Runs(4)),
+        (b"free", Verdict::Runs(4)),
+        (b"line", Verdict::Stuck(1)),
+        (b"narrow 2", Verdict::Runs(4)),
+        (b"narrow 1", Verdict::Stuck(2)),
         // each narrowing goes over the medium so far
-        (
-            b"table\n2 2\n1 1 0\n1 1 1\n2 0 1\n2 0 0\n.\nnarrow 1\nnarrow 2\njudge 32",
-            Some(Answer::Judged(Verdict::Stuck(2))),
-        ),
-        // `free` begins it anew
-        (
-            b"table\n2 2\n1 1 0\n1 1 1\n2 0 1\n2 0 0\n.\nline\nnarrow 1\nfree\njudge 32",
-            runs,
-        ),
-        // and so does `line`
-        (
-            b"table\n2 2\n1 1 0\n1 1 1\n2 0 1\n2 0 0\n.\nnarrow 1\nline\njudge 32",
-            Some(Answer::Judged(Verdict::Stuck(1))),
-        ),
+        (b"narrow 1\nnarrow 2", Verdict::Stuck(2)),
+        // `free` and `line` begin it anew
+        (b"line\nnarrow 1\nfree", Verdict::Runs(4)),
+        (b"narrow 1\nline", Verdict::Stuck(1)),
     ];
-    for (text, answer) in cases {
-        assert_eq!(rt; last_answer(heap, text), answer);
+    for (medium, verdict) in cases {
+        assert_eq!(rt; crossed(heap, medium), Ok(Some(verdict)));
     }
 }
 

@@ -50,10 +50,8 @@ fn calls_are_read(rt: HostRuntime) {
 }
 
 #[test]
-fn what_is_no_statement(rt: HostRuntime) {
-    let lines: [&[u8]; 36] = [
-        b"",
-        b" ",
+fn what_is_no_medium_command(rt: HostRuntime) {
+    let lines: [&[u8]; 12] = [
         b"free ",
         b" free",
         b"Free",
@@ -65,6 +63,16 @@ fn what_is_no_statement(rt: HostRuntime) {
         b"narrow 1 1",
         b"narrow  1",
         b"narrow -1",
+        b"narrow 1 x",
+    ];
+    for line in lines {
+        assert_eq!(rt; read_statement(line), None);
+    }
+}
+
+#[test]
+fn what_is_no_call(rt: HostRuntime) {
+    let lines: [&[u8]; 20] = [
         b"step",
         b"step 256",
         b"step 1 ",
@@ -85,10 +93,15 @@ fn what_is_no_statement(rt: HostRuntime) {
         b"latest 256 0",
         b"latest 0 65536",
         b"latest 1 1 1",
-        b"latest 1\t1",
-        b"poll 256 1",
-        b".",
     ];
+    for line in lines {
+        assert_eq!(rt; read_statement(line), None);
+    }
+}
+
+#[test]
+fn what_is_no_statement(rt: HostRuntime) {
+    let lines: [&[u8]; 6] = [b"", b" ", b".", b"poll 256 1", b"step\t1", b"stop"];
     for line in lines {
         assert_eq!(rt; read_statement(line), None);
     }

@@ -5,7 +5,11 @@ use Rattle.plays.specs.Plans.{plan_of}
 use Rattle.plays.specs.Followed.{state}
 use Rattle.plays.specs.Scripts.{script_of}
 use Rattle.plays.proofs.Following.{followed_leaves, line_passed, line_unknown, line_told, line_followed, end_told}
+use Rattle.plays.proofs.Once.{writes_it}
 use Rattle.plays.proofs.reading.read_script.Goals as goal
+
+pub loop-line-init : goal.loop-line-init
+loop-line-init c r x = writes_it c.args.text.now r (search rules)
 
 pub returns-in_default-read_statement : goal.returns-in_default-read_statement
 returns-in_default-read_statement c =
