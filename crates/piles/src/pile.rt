@@ -1,8 +1,8 @@
 ghost use Rattle.std.specs.Prelude.{◌≡◌, [], ◌∷◌, Ok};
-ghost use Rattle.std.specs.Option.{ok_or};
+ghost use Rattle.std.specs.Option.{ok_or, option_map};
 ghost use Rattle.tabletexts.specs.Outcome.{Answers};
 ghost use Rattle.piles.specs.Stack.{Popped, join_two, shown, top_of, turn_one};
-ghost use Rattle.piles.specs.Meanings.{Makes, Meaning, after_meaning, beside_meaning, meaning, recast_meaning};
+ghost use Rattle.piles.specs.Meanings.{Makes, Meaning, after_meaning, beside_meaning, flat_meaning, meaning, recast_meaning};
 
 use charts::Chart;
 use flats::Flat;
@@ -44,6 +44,14 @@ impl Pile {
         ensures { top_of self.now ≡ shown result }
     {
         self.charts.as_slice().last()
+    }
+
+    // The chart on top, taken out of the stack, none where that is empty.
+    pub fn into_top(self) -> Option<Flat>
+        ensures { top_of self ≡ option_map flat_meaning result }
+    {
+        let Pile { mut charts } = self;
+        charts.pop()
     }
 
     // An owned copy of the chart, put on top. Want of memory says nothing.

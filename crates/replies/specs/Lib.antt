@@ -1,0 +1,3 @@
+pub mod RefusalLines
+pub mod AnswerLines
+pub mod TurnLines

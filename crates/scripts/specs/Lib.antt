@@ -1,0 +1,4 @@
+pub mod Operands
+pub mod MediumLines
+pub mod Calls
+pub mod Statements
