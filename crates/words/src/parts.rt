@@ -1,0 +1,23 @@
+// A word of a chart text, and the place of its first byte.
+#[derive(Clone, Copy)]
+pub struct Word<'t> {
+    pub start: usize,
+    pub bytes: &'t [u8],
+}
+
+// What stands next in a chart text.
+#[derive(Clone, Copy)]
+pub enum Piece<'t> {
+    Word(Word<'t>),
+    // a semicolon at this place
+    Semicolon(usize),
+    // the end of the text, whose length this is
+    End(usize),
+}
+
+// Why a chart text is refused: by this number, at this byte.
+#[derive(Clone, Copy, PartialEq, Eq, Debug)]
+pub struct Fault {
+    pub number: u8,
+    pub byte: usize,
+}
