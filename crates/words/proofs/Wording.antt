@@ -92,6 +92,7 @@ module _ (text : List ℕ) (start k : ℕ) (so : Spelled text start k) where
         let n = w_long (omega arith) in (
           omega arith,
           omega arith,
+          let m = so.short in omega arith,
           here ∙ before_blank (start + k) w (omega arith) b bs x y ∙ ap₂ begun_by (w_word (omega arith)) behind,
         )
 
@@ -100,6 +101,7 @@ module _ (text : List ℕ) (start k : ℕ) (so : Spelled text start k) where
         let n = w_long (omega arith) in (
           omega arith,
           omega arith,
+          let m = so.short in omega arith,
           here ∙ before_semicolon (start + k) w (omega arith) b bs x y z ∙ ap₂ begun_by (w_word (omega arith)) behind,
         )
 
@@ -111,6 +113,7 @@ module _ (text : List ℕ) (start k : ℕ) (so : Spelled text start k) where
       subst (λ (e : ℕ). WordFrom text start (Ok e)) all (
         omega arith,
         omega arith,
+        let m = so.short in omega arith,
         so.same ∙ ap (sentences_from (start + k) [] w) none ∙ before_end (start + k) w (omega arith)
             ∙ ap₂ begun_by (w_word (omega arith)) (ap (sentences_from (start + k) [] []) (sym none)),
       )

@@ -1,7 +1,7 @@
 ghost use Rattle.std.specs.Prelude.{◌≡◌, ◌<◌, ◌≤◌, [], true, length, drop, get_or};
 ghost use Rattle.words.specs.Classes.{in_word};
 ghost use Rattle.words.specs.Sentences.{sentences, sentences_from};
-ghost use Rattle.words.specs.Reading.{left, BeginsWith, WordFrom, SkipsBlanks};
+ghost use Rattle.words.specs.Reading.{left, BeginsWith, WordStandsIn, WordFrom, SkipsBlanks};
 
 use crate::classes::{Class, class_of};
 use crate::parts::{Fault, Piece, Word};
@@ -59,7 +59,9 @@ impl<'t> Reader<'t> {
 
     // The next word or semicolon, or the end of the text. A fault leaves what is left to read as it was.
     pub fn next_piece(&mut self) -> Result<Piece<'t>, Fault>
-        ensures { BeginsWith (left self.old) result (left self.new) }
+        ensures begins { BeginsWith (left self.old) result (left self.new) }
+        ensures stands { WordStandsIn self.old.text.now result }
+        ensures keeps { self.new.text ≡ self.old.text }
     {
         let text = self.text;
         let start = skip_blanks(text, self.at);
