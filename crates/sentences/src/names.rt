@@ -7,7 +7,7 @@ ghost use Rattle.sentences.specs.Reading.{TakesWord, Takes, Closes};
 use words::{Fault, Piece, Reader, Word};
 
 // Whether two words have the same bytes.
-fn same(a: &[u8], b: &[u8]) -> bool
+pub(crate) fn same(a: &[u8], b: &[u8]) -> bool
     ensures { result ≡ bytes_eq a.now b.now }
 {
     a == b
