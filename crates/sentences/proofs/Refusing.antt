@@ -1,8 +1,8 @@
 -- A word that is refused refuses its sentence, also behind words that are wanted.
-use Rattle.std.proofs.Common.{◌≡◌, ℕ, cond, List, [], ◌∷◌, Some, None, Ok, Err, Result, refl, sym, ap, ◌∙◌, subst, codes}
+use Rattle.std.proofs.Common.{◌≡◌, ℕ, List, [], ◌∷◌, None, Err, Result, sym, ap, ◌∙◌, subst}
 use Rattle.charts.specs.declared.kinds.Kind.{Kind}
 use Rattle.charts.specs.declared.kinds.Kind.TheVariants.{Action}
-use Rattle.words.specs.declared.parts.Fault.{Fault}
+use Rattle.words.specs.declared.faults.Fault.{Fault}
 use Rattle.words.specs.Sentences.{Placed, Sentence}
 use Rattle.words.specs.Reading.{first, begun_by}
 use Rattle.sentences.specs.Wants.{Want, exactly, name, peer, fault_of, and_then, if_wanted, reads}

@@ -4,11 +4,12 @@ use Rattle.std.specs.Str.{bytes_eq}
 use Rattle.charts.specs.declared.kinds.Kind.{Kind}
 use Rattle.charts.specs.declared.kinds.Kind.TheVariants.{Output, Input, Action}
 use Rattle.words.specs.declared.parts.Word.{Word}
-use Rattle.words.specs.declared.parts.Fault.{Fault}
+use Rattle.words.specs.declared.faults.Cause.TheVariants.{WrongWord}
+use Rattle.words.specs.declared.faults.Fault.{Fault}
 use Rattle.words.specs.Sentences.{Placed, Sentence}
-use Rattle.words.specs.Reading.{placed, first, behind}
+use Rattle.words.specs.Reading.{placed, behind, StandsIn}
 use Rattle.sentences.specs.declared.parts.EventText.{EventText}
-use Rattle.sentences.specs.Wants.{Want, exactly, name, peer, at_byte, reads}
+use Rattle.sentences.specs.Wants.{exactly, name, peer, at_byte, reads}
 
 -- an event: the place of its first word, its kind, the name of its message or action, and the peer's, none for the environment
 pub record Spelled : Type 0 where
@@ -46,7 +47,7 @@ abbrev pub event_of_kind : Option Kind → Placed → Sentence → Result Spelle
 event_of_kind (Some Input) v s = message_in v Input (codes "from") s
 event_of_kind (Some Output) v s = message_in v Output (codes "to") s
 event_of_kind (Some Action) v s = if_read v.start Action (reads (name ∷ []) s.words s.ending)
-event_of_kind None v s = Err (at_byte 23 v.start)
+event_of_kind None v s = Err (at_byte WrongWord v.start)
 
 -- the event whose first word is v
 abbrev pub event_in : Placed → Sentence → Result Spelled Fault
@@ -65,3 +66,12 @@ spelled e = record { start = e.start; kind = e.kind; name = placed e.name; peer 
 abbrev pub EventRead : Result Spelled Fault → List Sentence → Result EventText Fault → List Sentence → Type 0
 EventRead says before (Ok e) after = (says ≡ Ok (spelled e)) × (after ≡ behind before)
 EventRead says before (Err f) after = says ≡ Err f
+
+-- a peer's name stands in the text
+abbrev pub PeerStandsIn : List ℕ → Option Placed → Type 0
+PeerStandsIn text None = Unit {0}
+PeerStandsIn text (Some w) = StandsIn text w
+
+-- the names of the event stand in the text
+abbrev pub EventStandsIn : List ℕ → Spelled → Type 0
+EventStandsIn text e = StandsIn text e.name × PeerStandsIn text e.peer

@@ -1,7 +1,7 @@
 -- Reading a sentence word by word.
-use Rattle.std.specs.Prelude.{◌≡◌, ℕ, List, [], ◌∷◌, Some, None, Ok, Err, Result}
+use Rattle.std.specs.Prelude.{◌≡◌, List, [], ◌∷◌, None, Ok, Err, Result}
 use Rattle.words.specs.declared.parts.Word.{Word}
-use Rattle.words.specs.declared.parts.Fault.{Fault}
+use Rattle.words.specs.declared.faults.Fault.{Fault}
 use Rattle.words.specs.Sentences.{Placed, Sentence}
 use Rattle.words.specs.Reading.{placed, first, behind, begun_by}
 use Rattle.sentences.specs.Wants.{Want, fault_of, reads}

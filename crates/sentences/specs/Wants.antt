@@ -1,8 +1,10 @@
 -- What may stand at the places of a sentence, and the words of one that has it.
 use Rattle.std.specs.Prelude.{ℕ, Bool, false, cond, ◌||◌, List, [], ◌∷◌, Some, None, Option, Ok, Err, Result, codes}
 use Rattle.std.specs.Str.{bytes_eq}
-use Rattle.words.specs.declared.parts.Fault.{Fault}
-use Rattle.words.specs.Sentences.{Placed, Sentence, Ending, semicolon, text_end, fault}
+use Rattle.words.specs.declared.faults.Cause.{Cause}
+use Rattle.words.specs.declared.faults.Cause.TheVariants.{WrongWord, TextEnds, InstanceRepeated}
+use Rattle.words.specs.declared.faults.Fault.{Fault}
+use Rattle.words.specs.Sentences.{Placed, Ending, semicolon, text_end, fault}
 
 -- the words of the grammar around instances
 abbrev pub frame_word : List ℕ → Bool
@@ -29,22 +31,22 @@ pub data Want : Type 0 where
   new_name : List Placed → Want
   peer : Want
 
--- the number of the fault of a word that is not wanted
-abbrev pub fault_of : Want → List ℕ → Option ℕ
-fault_of (exactly v) w = cond (bytes_eq w v) None (Some 23)
-fault_of name w = cond (reserved w) (Some 23) None
-fault_of (new_name ns) w = cond (reserved w) (Some 23) (cond (among ns w) (Some 25) None)
-fault_of peer w = cond (bytes_eq w (codes "env")) None (cond (reserved w) (Some 23) None)
+-- why a word that is not wanted is refused
+abbrev pub fault_of : Want → List ℕ → Option Cause
+fault_of (exactly v) w = cond (bytes_eq w v) None (Some WrongWord)
+fault_of name w = cond (reserved w) (Some WrongWord) None
+fault_of (new_name ns) w = cond (reserved w) (Some WrongWord) (cond (among ns w) (Some InstanceRepeated) None)
+fault_of peer w = cond (bytes_eq w (codes "env")) None (cond (reserved w) (Some WrongWord) None)
 
--- a fault by its number, at a byte
-abbrev pub at_byte : ℕ → ℕ → Fault
-at_byte n b = record { number = n; byte = b }
+-- refused at a byte
+abbrev pub at_byte : Cause → ℕ → Fault
+at_byte c b = record { cause = c; byte = b }
 
 -- the fault where a word is wanted and there is none
 abbrev pub no_word : Ending → Fault
-no_word (semicolon b) = at_byte 23 b
-no_word (text_end n) = at_byte 24 n
-no_word (fault n b) = at_byte n b
+no_word (semicolon b) = at_byte WrongWord b
+no_word (text_end n) = at_byte TextEnds n
+no_word (fault c b) = at_byte c b
 
 -- a word and then others, or their fault
 abbrev pub and_then : Placed → Result (List Placed) Fault → Result (List Placed) Fault
@@ -52,16 +54,16 @@ and_then w (Ok ws) = Ok (w ∷ ws)
 and_then w (Err f) = Err f
 
 -- a word that is wanted and then others, or the word's fault
-abbrev pub if_wanted : Option ℕ → Placed → Result (List Placed) Fault → Result (List Placed) Fault
+abbrev pub if_wanted : Option Cause → Placed → Result (List Placed) Fault → Result (List Placed) Fault
 if_wanted None w r = and_then w r
-if_wanted (Some n) w r = Err (at_byte n w.start)
+if_wanted (Some c) w r = Err (at_byte c w.start)
 
 -- nothing is left but the semicolon
 abbrev pub closed : List Placed → Ending → Result (List Placed) Fault
 closed [] (semicolon b) = Ok []
-closed [] (text_end n) = Err (at_byte 24 n)
-closed [] (fault n b) = Err (at_byte n b)
-closed (w ∷ ws) e = Err (at_byte 23 w.start)
+closed [] (text_end n) = Err (at_byte TextEnds n)
+closed [] (fault c b) = Err (at_byte c b)
+closed (w ∷ ws) e = Err (at_byte WrongWord w.start)
 
 -- the words of a sentence that has all that is wanted and then ends, or its first fault
 abbrev pub reads : List Want → List Placed → Ending → Result (List Placed) Fault

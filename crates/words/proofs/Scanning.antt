@@ -1,6 +1,7 @@
 -- Sentences, byte by byte.
 use Rattle.std.proofs.Common.{◌≡◌, ℕ, ◌+◌, ◌-◌, ◌<◌, ◌≤◌, Bool, true, false, cond, ◌==◌, ltb, List, [], ◌∷◌, ◌++◌, length, refl, ap, ◌∙◌, sym}
 use Rattle.std.proofs.lemmas.Bool.{lt-ltb, le-ltb, cond-true, cond-false}
+use Rattle.words.specs.declared.faults.Cause.TheVariants.{BadByte, LongWord}
 use Rattle.words.specs.Classes.{in_word, is_blank}
 use Rattle.words.specs.Sentences.{Placed, Sentence, semicolon, text_end, fault, with_word, sentences_from}
 use Rattle.words.specs.Reading.{begun_by, ended_by}
@@ -39,11 +40,11 @@ module _ (at : ℕ) (w : List ℕ) (b : ℕ) (bs : List ℕ) where
   more is short = cond-true {A = List Sentence} (in_word b) _ _ is ∙ cond-true {A = List Sentence} (ltb (length w) 16) _ _ (lt-ltb (length w) 16 short)
 
   -- one byte too many
-  pub too_long : in_word b ≡ true → 16 ≤ length w → sentences_from at [] w (b ∷ bs) ≡ ended_by (fault 22 at) ∷ []
+  pub too_long : in_word b ≡ true → 16 ≤ length w → sentences_from at [] w (b ∷ bs) ≡ ended_by (fault LongWord at) ∷ []
   too_long is long = cond-true {A = List Sentence} (in_word b) _ _ is ∙ cond-false {A = List Sentence} (ltb (length w) 16) _ _ (le-ltb (length w) 16 long)
 
   -- a byte that is not allowed
-  pub bad : in_word b ≡ false → is_blank b ≡ false → (b == 59) ≡ false → sentences_from at [] w (b ∷ bs) ≡ ended_by (fault 21 at) ∷ []
+  pub bad : in_word b ≡ false → is_blank b ≡ false → (b == 59) ≡ false → sentences_from at [] w (b ∷ bs) ≡ ended_by (fault BadByte at) ∷ []
   bad no_word no_blank no_semicolon =
       cond-false {A = List Sentence} (in_word b) _ _ no_word ∙ cond-false {A = List Sentence} (is_blank b) _ _ no_blank ∙ cond-false {A = List Sentence} (b == 59) _ _ no_semicolon
 

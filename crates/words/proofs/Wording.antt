@@ -3,6 +3,7 @@ use Rattle.std.proofs.Common.{◌≡◌, ℕ, zero, suc, ◌+◌, ◌-◌, ◌<�
 use Rattle.std.proofs.lemmas.List.{length-take-le, length-drop, get_or-drop, take_more}
 use Rattle.std.proofs.lemmas.Bool.{both_ways}
 use Rattle.std.proofs.Math.ListN.{drop_of_length-le}
+use Rattle.words.specs.declared.faults.Cause.TheVariants.{BadByte, LongWord}
 use Rattle.words.specs.Classes.{in_word, is_blank}
 use Rattle.words.specs.Sentences.{sentences_from}
 use Rattle.words.specs.Reading.{WordFrom, begun_by, word_in}
@@ -77,10 +78,10 @@ module _ (text : List ℕ) (start k : ℕ) (so : Spelled text start k) where
               (ap (λ (x : ℕ). w ++ (x ∷ [])) (sym (get_or-drop start text k 0)) ∙ sym (take_more (drop start text) k 0 (let d = length-drop start text in omega arith)));
         }
 
-    pub spelled_long : in_word b ≡ true → 16 ≤ k → WordFrom text start (Err (record { number = 22; byte = start + k }))
+    pub spelled_long : in_word b ≡ true → 16 ≤ k → WordFrom text start (Err (record { cause = LongWord; byte = start + k }))
     spelled_long is long = let n = w_long (omega arith) in here ∙ too_long (start + k) w b bs is (omega arith)
 
-    pub spelled_bad : in_word b ≡ false → is_blank b ≡ false → (b == 59) ≡ false → WordFrom text start (Err (record { number = 21; byte = start + k }))
+    pub spelled_bad : in_word b ≡ false → is_blank b ≡ false → (b == 59) ≡ false → WordFrom text start (Err (record { cause = BadByte; byte = start + k }))
     spelled_bad x y z = here ∙ bad (start + k) w b bs x y z
 
     -- what is left behind the word begins with the byte

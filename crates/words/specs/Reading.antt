@@ -3,7 +3,7 @@ use Rattle.std.specs.Prelude.{◌≡◌, ℕ, ◌+◌, ◌-◌, ◌<◌, ◌≤�
 use Rattle.words.specs.declared.parts.Word.{Word}
 use Rattle.words.specs.declared.parts.Piece.{Piece}
 use Rattle.words.specs.declared.parts.Piece.TheVariants.{Word as WordPiece, Semicolon, End}
-use Rattle.words.specs.declared.parts.Fault.{Fault}
+use Rattle.words.specs.declared.faults.Fault.{Fault}
 use Rattle.words.specs.declared.reader.Reader.{Reader}
 use Rattle.words.specs.declared.classes.Class.TheVariants.{Blank}
 use Rattle.words.specs.Classes.{class_of}
@@ -40,7 +40,7 @@ abbrev pub BeginsWith : List Sentence → Result Piece Fault → List Sentence �
 BeginsWith before (Ok (WordPiece w)) after = before ≡ begun_by (placed w) after
 BeginsWith before (Ok (Semicolon s)) after = before ≡ ended_by (semicolon s) ∷ after
 BeginsWith before (Ok (End n)) after = (before ≡ ended_by (text_end n) ∷ []) × (after ≡ before)
-BeginsWith before (Err f) after = (before ≡ ended_by (fault f.number f.byte) ∷ []) × (after ≡ before)
+BeginsWith before (Err f) after = (before ≡ ended_by (fault f.cause f.byte) ∷ []) × (after ≡ before)
 
 -- the word stands in the text, and has 1 to 16 bytes
 pub record StandsIn (text : List ℕ) (w : Placed) : Type 0 where
@@ -70,4 +70,4 @@ word_in text start end = record { start = start; bytes = take (end - start) (dro
 abbrev pub WordFrom : List ℕ → ℕ → Result ℕ Fault → Type 0
 WordFrom text start (Ok end) =
     (start < end) × (end ≤ length text) × (end ≤ start + 16) × (sentences_from start [] [] (drop start text) ≡ begun_by (word_in text start end) (sentences_from end [] [] (drop end text)))
-WordFrom text start (Err f) = sentences_from start [] [] (drop start text) ≡ ended_by (fault f.number f.byte) ∷ []
+WordFrom text start (Err f) = sentences_from start [] [] (drop start text) ≡ ended_by (fault f.cause f.byte) ∷ []

@@ -15,9 +15,3 @@ pub enum Piece<'t> {
     End(usize),
 }
 
-// Why a chart text is refused: by this number, at this byte.
-#[derive(Clone, Copy, PartialEq, Eq, Debug)]
-pub struct Fault {
-    pub number: u8,
-    pub byte: usize,
-}

@@ -4,7 +4,8 @@ ghost use Rattle.words.specs.Sentences.{sentences, sentences_from};
 ghost use Rattle.words.specs.Reading.{left, BeginsWith, WordStandsIn, WordFrom, SkipsBlanks};
 
 use crate::classes::{Class, class_of};
-use crate::parts::{Fault, Piece, Word};
+use crate::faults::{Cause, Fault};
+use crate::parts::{Piece, Word};
 use crate::reader::Reader;
 
 // No word is longer.
@@ -35,11 +36,11 @@ fn word_end(text: &[u8], start: usize) -> Result<usize, Fault>
         match class_of(*byte) {
             Class::Word if length < LONGEST => {}
             Class::Word => return Err(Fault {
-                number: 22,
+                cause: Cause::LongWord,
                 byte: byte_at,
             }),
             Class::Other => return Err(Fault {
-                number: 21,
+                cause: Cause::BadByte,
                 byte: byte_at,
             }),
             Class::Blank => return Ok(byte_at),
@@ -82,7 +83,7 @@ impl<'t> Reader<'t> {
                 Ok(Piece::Semicolon(start))
             }
             Class::Blank | Class::Other => Err(Fault {
-                number: 21,
+                cause: Cause::BadByte,
                 byte: start,
             }),
         }
