@@ -50,8 +50,14 @@ pub fn read_word<'t>(reader: &mut Reader<'t>) -> Result<Word<'t>, Fault>
 {
     match reader.next_piece()? {
         Piece::Word(word) => Ok(word),
-        Piece::Semicolon(byte) => Err(Fault { cause: Cause::WrongWord, byte }),
-        Piece::End(byte) => Err(Fault { cause: Cause::TextEnds, byte }),
+        Piece::Semicolon(byte) => Err(Fault {
+            cause: Cause::WrongWord,
+            byte,
+        }),
+        Piece::End(byte) => Err(Fault {
+            cause: Cause::TextEnds,
+            byte,
+        }),
     }
 }
 
@@ -114,6 +120,9 @@ pub fn close<'t>(reader: &mut Reader<'t>) -> Result<(), Fault>
             cause: Cause::WrongWord,
             byte: word.start,
         }),
-        Piece::End(byte) => Err(Fault { cause: Cause::TextEnds, byte }),
+        Piece::End(byte) => Err(Fault {
+            cause: Cause::TextEnds,
+            byte,
+        }),
     }
 }
