@@ -4,16 +4,16 @@ use Rattle.words.specs.declared.parts.Word.{Word}
 use Rattle.words.specs.declared.faults.Fault.{Fault}
 use Rattle.words.specs.Sentences.{Placed, Sentence}
 use Rattle.words.specs.Reading.{placed, first, behind, begun_by}
-use Rattle.sentences.specs.Wants.{Want, fault_of, reads}
+use Rattle.sentences.specs.Wants.{Want, fault_of, no_word, reads}
 
 -- the words of the first sentence of what is left, where it has all that is wanted, or its fault
 abbrev pub reads_first : List Want → List Sentence → Result (List Placed) Fault
 reads_first ps left = reads ps (first left).words (first left).ending
 
--- a word was read off what was left; or the first sentence has this fault, whatever word is wanted
+-- a word was read off what was left; or there is none, which is this fault
 abbrev pub TakesWord : List Sentence → Result Word Fault → List Sentence → Type 0
 TakesWord before (Ok w) after = before ≡ begun_by (placed w) after
-TakesWord before (Err f) after = (p : Want) (ps : List Want) → reads_first (p ∷ ps) before ≡ Err f
+TakesWord before (Err f) after = ((first before).words ≡ []) × (no_word (first before).ending ≡ f)
 
 -- a word that is wanted was read off what was left; or the first sentence has this fault, whatever is wanted behind the word
 abbrev pub Takes : Want → List Sentence → Result Word Fault → List Sentence → Type 0

@@ -1,0 +1,9 @@
+// Chart texts: their items.
+#![tactic(auto)]
+
+mod items;
+mod parts;
+mod walk;
+
+pub use parts::{Item, Stage};
+pub use walk::Walk;
