@@ -1,5 +1,6 @@
 -- What may stand at the places of a sentence, and the words of one that has it.
 use Rattle.std.specs.Prelude.{ℕ, Bool, false, cond, ◌||◌, List, [], ◌∷◌, Some, None, Option, Ok, Err, Result, codes}
+use Rattle.std.specs.Option.{option_map}
 use Rattle.std.specs.Str.{bytes_eq}
 use Rattle.words.specs.declared.faults.Cause.{Cause}
 use Rattle.words.specs.declared.faults.Cause.TheVariants.{WrongWord, TextEnds, InstanceRepeated}
@@ -47,6 +48,11 @@ abbrev pub no_word : Ending → Fault
 no_word (semicolon b) = at_byte WrongWord b
 no_word (text_end n) = at_byte TextEnds n
 no_word (fault c b) = at_byte c b
+
+-- the fault at the first of these words where p is wanted, none where it is the word wanted
+abbrev pub word_fault : Want → List Placed → Ending → Option Fault
+word_fault p [] e = Some (no_word e)
+word_fault p (w ∷ ws) e = option_map (λ c. at_byte c w.start) (fault_of p w.bytes)
 
 -- a word and then others, or their fault
 abbrev pub and_then : Placed → Result (List Placed) Fault → Result (List Placed) Fault
