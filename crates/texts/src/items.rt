@@ -28,7 +28,7 @@ fn read_end<'t>(reader: &mut Reader<'t>) -> Result<(), Fault>
 }
 
 // The next item between instances, and where the walk then stands.
-fn read_outside<'t>(reader: &mut Reader<'t>) -> Result<(Item<'t>, Stage), Fault>
+pub(crate) fn read_outside<'t>(reader: &mut Reader<'t>) -> Result<(Item<'t>, Stage), Fault>
     ensures { StepRead (items_from false (left reader.old)) result (left reader.new) }
 {
     let verb = read_word(reader)?;
@@ -45,7 +45,7 @@ fn read_outside<'t>(reader: &mut Reader<'t>) -> Result<(Item<'t>, Stage), Fault>
 }
 
 // The next item of an instance, and where the walk then stands.
-fn read_inside<'t>(reader: &mut Reader<'t>) -> Result<(Item<'t>, Stage), Fault>
+pub(crate) fn read_inside<'t>(reader: &mut Reader<'t>) -> Result<(Item<'t>, Stage), Fault>
     ensures { StepRead (items_from true (left reader.old)) result (left reader.new) }
 {
     let verb = read_word(reader)?;

@@ -4,6 +4,7 @@
 mod items;
 mod parts;
 mod walk;
+mod walking;
 
 pub use parts::{Item, Stage};
 pub use walk::Walk;
