@@ -1,11 +1,11 @@
 -- A word that is missing or refused refuses what is left.
-use Rattle.std.proofs.Common.{◌≡◌, ℕ, Bool, true, false, cond, List, [], ◌∷◌, Some, None, Ok, Err, Result, Option, codes, refl, sym, ap, ◌∙◌, subst}
+use Rattle.std.proofs.Common.{◌≡◌, Bool, true, false, cond, List, [], ◌∷◌, Some, None, Err, Result, codes, sym, ap, ◌∙◌, subst}
 use Rattle.std.specs.Option.{option_map}
 use Rattle.std.specs.Str.{bytes_eq}
 use Rattle.std.proofs.lemmas.Bool.{cond-true}
 use Rattle.words.specs.declared.faults.Cause.TheVariants.{WrongWord}
 use Rattle.words.specs.declared.faults.Fault.{Fault}
-use Rattle.words.specs.Sentences.{Placed, Sentence, Ending, text_end}
+use Rattle.words.specs.Sentences.{Placed, Sentence, Ending}
 use Rattle.words.specs.Reading.{first, begun_by}
 use Rattle.sentences.specs.Wants.{name, at_byte, no_word, word_fault, reserved, closed}
 use Rattle.texts.specs.declared.parts.Item.{Item as Read}

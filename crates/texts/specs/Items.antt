@@ -1,11 +1,11 @@
 -- What a chart text says, item by item.
-use Rattle.std.specs.Prelude.{◌≡◌, ℕ, Bool, true, false, cond, List, [], ◌∷◌, Ok, Err, Result, codes}
+use Rattle.std.specs.Prelude.{Bool, true, false, cond, List, [], ◌∷◌, Ok, Err, Result, codes}
 use Rattle.std.specs.Str.{bytes_eq}
 use Rattle.words.specs.declared.faults.Cause.TheVariants.{WrongWord, BehindEnd}
 use Rattle.words.specs.declared.faults.Fault.{Fault}
-use Rattle.words.specs.Sentences.{Placed, Sentence, Ending, semicolon, text_end, fault, sentences}
-use Rattle.words.specs.Reading.{first, behind}
-use Rattle.sentences.specs.Wants.{Want, exactly, name, at_byte, no_word, closed, reserved, reads}
+use Rattle.words.specs.Sentences.{Placed, Sentence, Ending, semicolon, text_end, fault}
+use Rattle.words.specs.Reading.{first}
+use Rattle.sentences.specs.Wants.{at_byte, no_word, closed, reserved}
 use Rattle.sentences.specs.Events.{Spelled, event_in}
 
 -- an instance begins, with its name; an event of it; it ends

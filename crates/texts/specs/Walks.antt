@@ -4,9 +4,9 @@ use Rattle.words.specs.declared.faults.Cause.TheVariants.{TextEnds}
 use Rattle.words.specs.declared.faults.Fault.{Fault}
 use Rattle.words.specs.declared.parts.Word.{Word}
 use Rattle.words.specs.Sentences.{Placed, Sentence}
-use Rattle.words.specs.Reading.{placed, first, behind, left}
+use Rattle.words.specs.Reading.{placed, first, behind, left, StandsIn}
 use Rattle.sentences.specs.Wants.{exactly, name, at_byte, closed, reads}
-use Rattle.sentences.specs.Events.{spelled}
+use Rattle.sentences.specs.Events.{spelled, EventStandsIn}
 use Rattle.texts.specs.declared.parts.Item.{Item as Read}
 use Rattle.texts.specs.declared.parts.Item.TheVariants.{Instance, Event, InstanceEnd, End}
 use Rattle.texts.specs.declared.parts.Stage.{Stage}
@@ -62,3 +62,10 @@ title_in ss = second (reads (exactly (codes "msc") ∷ name ∷ []) (first ss).w
 abbrev pub Begins : List Sentence → Result (Word × Walk) Fault → Type 0
 Begins ss (Ok r) = (title_in ss ≡ Ok (placed r.0)) × (items_left r.1 ≡ items_from false (behind ss))
 Begins ss (Err f) = title_in ss ≡ Err f
+
+-- the names of an item stand in the text
+abbrev pub ItemStandsIn : List ℕ → Read → Type 0
+ItemStandsIn text (Instance w) = StandsIn text (placed w)
+ItemStandsIn text (Event e) = EventStandsIn text (spelled e)
+ItemStandsIn text InstanceEnd = Unit {0}
+ItemStandsIn text End = Unit {0}

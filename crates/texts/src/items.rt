@@ -1,8 +1,8 @@
-ghost use Rattle.std.specs.Prelude.{◌≡◌, true, false};
+ghost use Rattle.std.specs.Prelude.{◌≡◌, true, false, IfOk};
 ghost use Rattle.std.specs.Str.{bytes_eq};
 ghost use Rattle.words.specs.Reading.{left};
-ghost use Rattle.texts.specs.Items.{items_from, finished};
-ghost use Rattle.texts.specs.Walks.{items_at, ItemRead, StepRead, EndRead};
+ghost use Rattle.texts.specs.Items.{items_from};
+ghost use Rattle.texts.specs.Walks.{ItemStandsIn, StepRead, EndRead};
 
 use crate::parts::{Item, Stage};
 use crate::walk::Walk;
@@ -18,18 +18,27 @@ fn same(a: &[u8], b: &[u8]) -> bool
 
 // That nothing stands behind the end.
 fn read_end<'t>(reader: &mut Reader<'t>) -> Result<(), Fault>
-    ensures { EndRead (left reader.old) result }
+    ensures reads { EndRead (left reader.old) result }
+    ensures keeps { reader.new.text ≡ reader.old.text }
 {
     match reader.next_piece()? {
         Piece::End(_) => Ok(()),
-        Piece::Word(word) => Err(Fault { cause: Cause::BehindEnd, byte: word.start }),
-        Piece::Semicolon(byte) => Err(Fault { cause: Cause::BehindEnd, byte }),
+        Piece::Word(word) => Err(Fault {
+            cause: Cause::BehindEnd,
+            byte: word.start,
+        }),
+        Piece::Semicolon(byte) => Err(Fault {
+            cause: Cause::BehindEnd,
+            byte,
+        }),
     }
 }
 
 // The next item between instances, and where the walk then stands.
 pub(crate) fn read_outside<'t>(reader: &mut Reader<'t>) -> Result<(Item<'t>, Stage), Fault>
-    ensures { StepRead (items_from false (left reader.old)) result (left reader.new) }
+    ensures reads { StepRead (items_from false (left reader.old)) result (left reader.new) }
+    ensures stands { IfOk result (λ r. ItemStandsIn reader.old.text.now r.0) }
+    ensures keeps { reader.new.text ≡ reader.old.text }
 {
     let verb = read_word(reader)?;
     if same(verb.bytes, b"instance") {
@@ -41,12 +50,17 @@ pub(crate) fn read_outside<'t>(reader: &mut Reader<'t>) -> Result<(Item<'t>, Sta
         read_end(reader)?;
         return Ok((Item::End, Stage::Done));
     }
-    Err(Fault { cause: Cause::WrongWord, byte: verb.start })
+    Err(Fault {
+        cause: Cause::WrongWord,
+        byte: verb.start,
+    })
 }
 
 // The next item of an instance, and where the walk then stands.
 pub(crate) fn read_inside<'t>(reader: &mut Reader<'t>) -> Result<(Item<'t>, Stage), Fault>
-    ensures { StepRead (items_from true (left reader.old)) result (left reader.new) }
+    ensures reads { StepRead (items_from true (left reader.old)) result (left reader.new) }
+    ensures stands { IfOk result (λ r. ItemStandsIn reader.old.text.now r.0) }
+    ensures keeps { reader.new.text ≡ reader.old.text }
 {
     let verb = read_word(reader)?;
     if same(verb.bytes, b"endinstance") {

@@ -3,6 +3,8 @@
 
 mod items;
 mod parts;
+#[cfg(test)]
+mod tests;
 mod walk;
 mod walking;
 

@@ -53,7 +53,8 @@ fn word_end(text: &[u8], start: usize) -> Result<usize, Fault>
 impl<'t> Reader<'t> {
     // The whole text, none of it read.
     pub fn new(text: &'t [u8]) -> Reader<'t>
-        ensures { left result ≡ sentences text.now }
+        ensures left { left result ≡ sentences text.now }
+        ensures text { result.text.now ≡ text.now }
     {
         Reader { text, at: 0 }
     }
