@@ -1,0 +1,3 @@
+pub mod Wants
+pub mod Reading
+pub mod Events

@@ -1,0 +1,4 @@
+pub mod Telling
+pub mod Scanning
+pub mod Skipping
+pub mod Wording

@@ -1,0 +1,4 @@
+pub mod Classes
+pub mod Faults
+pub mod Sentences
+pub mod Reading
