@@ -5,3 +5,4 @@ pub mod Found
 pub mod Made
 pub mod Drove
 pub mod Ended
+pub mod Staying
