@@ -6,3 +6,5 @@ pub mod Made
 pub mod Drove
 pub mod Ended
 pub mod Staying
+pub mod Bits
+pub mod Looks
