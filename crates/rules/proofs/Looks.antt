@@ -18,6 +18,9 @@ use Rattle.rules.specs.declared.instances.Instances.{Instances}
 use Rattle.rules.specs.Boards.{lists_of, positions}
 use Rattle.rules.specs.Held.{held_now, some_below}
 use Rattle.rules.specs.Instances.{has, Covers}
+use Rattle.copies.specs.declared.parts.Slot.{Slot}
+use Rattle.copies.specs.Slots.{slot_at}
+use Rattle.rules.proofs.Allowing.{slot_there}
 use Rattle.rules.proofs.Found.{found}
 use Rattle.rules.proofs.Drove.{below_some, held_unfinished}
 use Rattle.rules.proofs.Staying.{same_held}
@@ -73,17 +76,13 @@ module _ (M : Carry) (held : Option Held) (b b' : Board) (same : b'.copy ≡ b.c
   abbrev test : ℕ → Bool
   test = held_now M (lists_of b) held (positions b)
 
-  pub covers_on : (s s' : Instances) → Covers test (length (lists_of b)) s → (i peer : ℕ) → Some i ≡ some_below (length (lists_of b)) (lowest test (length (lists_of b))) →
-      (unfinished (lists_of b) (positions b) i ≡ true → peer ≡ (event_of (lists_of b) i (positions b i)).peer) →
-      ((j : ℕ) → j < 32 → has s' j ≡ (has s j || eqb j peer)) →
-      ((j : ℕ) → positions b' j ≡ cond (unfinished (lists_of b) (positions b) i) (moved (positions b) i j) (positions b j)) →
-      Covers (held_now M (lists_of b') held (positions b')) (length (lists_of b')) s'
-  covers_on s s' covers i peer f is more moves =
+  pub covers_on : (s s' : Instances) → Covers test (length (lists_of b)) s → (i : ℕ) → Some i ≡ some_below (length (lists_of b)) (lowest test (length (lists_of b))) →
+      (x : Slot) → slot_at (lists_of b) i (positions b i) ≡ Some x → (peer : ℕ) → peer ≡ x.event.peer → ((j : ℕ) → j < 32 → has s' j ≡ (has s j || eqb j peer)) →
+      ((j : ℕ) → positions b' j ≡ moved (positions b) i j) → Covers (held_now M (lists_of b') held (positions b')) (length (lists_of b')) s'
+  covers_on s s' covers i f x next peer is more moves =
       let there = below_some (length (lists_of b)) (lowest test (length (lists_of b))) i f in
       let low = there.1 in
-      let at = there.0 in
-      let t : test i ≡ true = subst (λ (x : ℕ). test x ≡ true) at (lowest_passes test (length (lists_of b)) (omega arith)) in
-      let u = held_unfinished M (lists_of b) held (positions b) i t in
-      let on = covers_stepped M (lists_of b) (kept_sound b.copy) held (positions b) b.within s s' covers i peer t (is u) more (positions b')
-      (λ j. moves j ∙ cond-true (unfinished (lists_of b) (positions b) i) (moved (positions b) i j) (positions b j) u) in
-      subst (λ (L : List (List Event)). Covers (held_now M L held (positions b')) (length L) s') (sym (ap kept same)) on
+      let t : test i ≡ true = subst (λ (y : ℕ). test y ≡ true) there.0 (lowest_passes test (length (lists_of b)) (omega arith)) in
+      let its = ap (λ (y : Slot). y.event.peer) (slot_there (lists_of b) i (positions b i) x next).1 in
+      subst (λ (L : List (List Event)). Covers (held_now M L held (positions b')) (length L) s') (sym (ap kept same))
+      (covers_stepped M (lists_of b) (kept_sound b.copy) held (positions b) b.within s s' covers i peer t (is ∙ its) more (positions b') moves)

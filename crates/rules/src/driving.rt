@@ -1,41 +1,52 @@
-ghost use Rattle.std.specs.Prelude.{◌≡◌, length, true};
-ghost use Rattle.charts.specs.Lists.{event_of};
-ghost use Rattle.orders.specs.Deciding.{unfinished};
+ghost use Rattle.std.specs.Prelude.{◌≡◌, length, true, false, Some, MatchOption};
+ghost use Rattle.copies.specs.Slots.{slot_at};
 ghost use Rattle.orders.specs.Driving.{lowest as lowest_of};
-ghost use Rattle.rules.specs.Held.{held_now, some_below};
-ghost use Rattle.rules.specs.Drove.{Wrote};
+ghost use Rattle.rules.specs.Held.{held_now, is_held, some_below};
+ghost use Rattle.rules.specs.Drove.{Wrote, LowestSlot};
 ghost use Rattle.rules.specs.Instances.{Covers};
 ghost use Rattle.rules.specs.Boards.{lists_of, positions, drive_of};
 
 use crate::board::Board;
 use crate::held::Held;
 use crate::instances::Instances;
+use copies::Slot;
 use media::Medium;
 
 impl Board {
-    // Whether instance j may run, and not by the event that is held.
-    // The medium is the run's own and lent, what is held changes from drive to drive: no type has both.
-    fn may_but<M: Medium>(&self, medium: &M, held: Option<Held>, j: usize) -> bool
-        ensures { result ≡ held_now (M.carries medium.now) (lists_of self.now) held (positions self.now) j }
+    // Whether the next event of instance j is the one that is held.
+    fn is_held(&self, held: Option<Held>, j: usize) -> bool
+        ensures { result ≡ is_held held (positions self.now) j }
     {
         match held {
-            None => self.may(medium, j),
+            None => false,
             Some(Held { instance, event }) => {
-                let is_held = j == instance && self.position(instance) == event;
-                self.may(medium, j) && !is_held
+                j == instance && self.position(instance) == event
             }
         }
     }
 
-    // The lowest of the instances to look at that may run, and not by the event that is held. Those below it are struck out: they may not.
-    fn lowest_among<M: Medium>(&self, medium: &M, held: Option<Held>, looks: &mut Instances) -> Option<usize>
+    // The next event of instance j, if it may run and is not the one that is held.
+    // The medium is the run's own and lent, what is held changes from drive to drive: no type has both.
+    fn runnable<M: Medium>(&self, medium: &M, held: Option<Held>, j: usize) -> Option<Slot>
+        ensures { MatchOption result (held_now (M.carries medium.now) (lists_of self.now) held (positions self.now) j ≡ false) (λ slot. (held_now (M.carries medium.now) (lists_of self.now) held (positions self.now) j ≡ true) × (slot_at (lists_of self.now) j (positions self.now j) ≡ Some slot)) }
+    {
+        let slot = self.next(j)?;
+        if !self.is_held(held, j) && self.allows(medium, j, slot) {
+            Some(slot)
+        } else {
+            None
+        }
+    }
+
+    // The lowest of the instances to look at that may run, and not by the event that is held, with its next event. Those below it are struck out: they may not.
+    fn lowest_among<M: Medium>(&self, medium: &M, held: Option<Held>, looks: &mut Instances) -> Option<(usize, Slot)>
         requires { Covers (held_now (M.carries medium.now) (lists_of self.now) held (positions self.now)) (length (lists_of self.now)) looks.old }
-        ensures lowest { result ≡ some_below (length (lists_of self.now)) (lowest_of (held_now (M.carries medium.now) (lists_of self.now) held (positions self.now)) (length (lists_of self.now))) }
+        ensures lowest { LowestSlot (lists_of self.now) (positions self.now) (held_now (M.carries medium.now) (lists_of self.now) held (positions self.now)) result }
         ensures covers { Covers (held_now (M.carries medium.now) (lists_of self.now) held (positions self.now)) (length (lists_of self.now)) looks.new }
     {
         while let Some(j) = looks.lowest() {
-            if self.may_but(medium, held, j) {
-                return Some(j);
+            if let Some(slot) = self.runnable(medium, held, j) {
+                return Some((j, slot));
             }
             looks.remove(j);
         }
@@ -46,14 +57,8 @@ impl Board {
     pub fn lowest<M: Medium>(&self, medium: &M, held: Option<Held>) -> Option<usize>
         ensures { result ≡ some_below (length (lists_of self.now)) (lowest_of (held_now (M.carries medium.now) (lists_of self.now) held (positions self.now)) (length (lists_of self.now))) }
     {
-        self.lowest_among(medium, held, &mut Instances::all())
-    }
-
-    // The peer's byte of the next event of instance i, its own number where it has finished.
-    fn next_peer(&self, i: usize) -> usize
-        ensures { unfinished (lists_of self.now) (positions self.now) i ≡ true → result ≡ (event_of (lists_of self.now) i (positions self.now i)).peer }
-    {
-        self.next(i).map_or(i, |slot| usize::from(slot.event.peer))
+        let (j, _) = self.lowest_among(medium, held, &mut Instances::all())?;
+        Some(j)
     }
 
     // The buffer is the caller's, and so is the count: a run has no heap.
@@ -66,11 +71,11 @@ impl Board {
     {
         let mut looks = Instances::all();
         for (made, cell) in out.iter_mut().enumerate() {
-            let Some(i) = self.lowest_among(medium, held, &mut looks) else {
+            let Some((i, slot)) = self.lowest_among(medium, held, &mut looks) else {
                 return made;
             };
-            looks.insert(self.next_peer(i));
-            self.advance(i);
+            looks.insert(usize::from(slot.event.peer));
+            self.step(i, slot);
             *cell = i as u8;
         }
         out.len()

@@ -29,7 +29,7 @@ returns-in_default g c =
 pub overflow_cast-cell : goal.overflow_cast-cell
 overflow_cast-cell g c =
     let l = c.loop-made in
-    let f = fits_byte (kept l.self.copy) (kept_sound l.self.copy) c.in-Some.i _ c.in-Some.ensures.lowest in
+    let f = fits_byte (kept l.self.copy) (kept_sound l.self.copy) c.in-Some.i _ c.in-Some.ensures.lowest.0 in
     omega arith
 
 pub loop-made-preserved : goal.loop-made-preserved
@@ -37,9 +37,9 @@ loop-made-preserved g c =
     let M = g.M.Medium.carries c.args.medium.now in
     let L = kept c.args.self.now.copy in
     let l = c.loop-made in (
-      c.advance.ensures.keeps ∙ l.invariant.0,
+      c.step.ensures.keeps ∙ l.invariant.0,
       turn_more M L c.args.held (kept l.self.copy) (ap kept (sym l.invariant.0)) l.made _ l.self.rows.table _ c.args.out.now l.out c.in-Some.i
-          l.invariant.1 (omega arith) c.in-Some.ensures.lowest c.advance.ensures.moves,
-      covers_on M c.args.held l.self c.advance.new.self c.advance.ensures.keeps c.lowest_among.new.looks c.insert.new.self c.in-Some.ensures.covers c.in-Some.i _ c.in-Some.ensures.lowest
-          c.next_peer.ensures c.insert.ensures c.advance.ensures.moves,
+          l.invariant.1 (omega arith) c.in-Some.ensures.lowest.0 c.step.ensures.moves,
+      covers_on M c.args.held l.self c.step.new.self c.step.ensures.keeps c.lowest_among.new.looks c.insert.new.self c.in-Some.ensures.covers c.in-Some.i c.in-Some.ensures.lowest.0
+          c.in-Some.slot c.in-Some.ensures.lowest.1 c.from.result c.from.ensures c.insert.ensures c.step.ensures.moves,
     )
