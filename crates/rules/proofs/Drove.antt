@@ -1,5 +1,5 @@
 -- A drive, as a loop makes it.
-use Rattle.std.proofs.Common.{◌≡◌, ℕ, suc, ◌+◌, ◌<◌, ◌≤◌, Bool, true, cond, not, ◌&&◌, eqb, ltb, List, [], ◌∷◌, ◌++◌, length, get_or, drop, set, Some, None, Option, sym, refl, ap, ◌∙◌, subst, inl, inr, add-one, arith, drop-cons}
+use Rattle.std.proofs.Common.{◌≡◌, ℕ, suc, ◌+◌, ◌<◌, ◌≤◌, Bool, true, not, ◌&&◌, eqb, ltb, List, [], ◌∷◌, ◌++◌, length, get_or, drop, set, Some, None, Option, sym, refl, ap, ◌∙◌, subst, inl, inr, add-one, arith, drop-cons}
 use mathlib.Core.Path.{fun_ext}
 use Rattle.std.proofs.lemmas.List.{append_assoc, length_push, set_at}
 use Rattle.std.proofs.lemmas.Bool.{cases_lt, lt-ltb, le-ltb, and_parts, cond-true, cond-false}
@@ -9,7 +9,6 @@ use Rattle.charts.specs.Sound.{Sound}
 use Rattle.media.specs.Carry.{Carry}
 use Rattle.orders.specs.Deciding.{unfinished, may_run_at, may_now_at}
 use Rattle.orders.specs.Driving.{lowest, moved, moved_by, driven}
-use Rattle.orders.proofs.Lowest.{lowest_passes}
 use Rattle.orders.proofs.Driving.{moved_by_push, driven_more, driven_stops}
 use Rattle.rules.specs.declared.row.Row.{Row}
 use Rattle.rules.specs.Places.{place_of}

@@ -1,6 +1,6 @@
 -- A search for the lowest among the instances to look at, and what is to look at after a step.
-use Rattle.std.proofs.Common.{◌≡◌, ℕ, ◌+◌, ◌<◌, ◌≤◌, Bool, true, false, cond, not, ◌&&◌, ◌||◌, eqb, List, length, Some, None, Option, sym, refl, ap, ◌∙◌, subst, inl, inr, arith}
-use Rattle.std.proofs.lemmas.Bool.{cases_eq, cond-true, eq-eqb, ne_eqb, ltb-true, or_parts, both_ways}
+use Rattle.std.proofs.Common.{◌≡◌, ℕ, ◌<◌, ◌≤◌, Bool, true, false, not, ◌&&◌, ◌||◌, eqb, List, length, Some, None, Option, sym, refl, ap, ◌∙◌, subst, inl, inr, arith}
+use Rattle.std.proofs.lemmas.Bool.{cases_eq, eq-eqb, ne_eqb, ltb-true, or_parts, both_ways}
 use mathlib.Core.Path.{fun_ext}
 use Rattle.charts.specs.declared.parts.Event.{Event}
 use Rattle.charts.specs.Lists.{count_of, event_of}
@@ -8,7 +8,6 @@ use Rattle.charts.specs.Sound.{Sound}
 use Rattle.copies.specs.Kept.{kept}
 use Rattle.copies.proofs.Kept.{kept_sound}
 use Rattle.media.specs.Carry.{Carry}
-use Rattle.orders.specs.Deciding.{unfinished}
 use Rattle.orders.specs.Driving.{lowest, moved}
 use Rattle.orders.proofs.Decided.{at_width}
 use Rattle.orders.proofs.Lowest.{lowest_passes}

@@ -19,9 +19,7 @@ impl Board {
     {
         match held {
             None => false,
-            Some(Held { instance, event }) => {
-                j == instance && self.position(instance) == event
-            }
+            Some(Held { instance, event }) => { j == instance && self.position(instance) == event }
         }
     }
 
@@ -39,7 +37,12 @@ impl Board {
     }
 
     // The lowest of the instances to look at that may run, and not by the event that is held, with its next event. Those below it are struck out: they may not.
-    fn lowest_among<M: Medium>(&self, medium: &M, held: Option<Held>, looks: &mut Instances) -> Option<(usize, Slot)>
+    fn lowest_among<M: Medium>(
+        &self,
+        medium: &M,
+        held: Option<Held>,
+        looks: &mut Instances,
+    ) -> Option<(usize, Slot)>
         requires { Covers (held_now (M.carries medium.now) (lists_of self.now) held (positions self.now)) (length (lists_of self.now)) looks.old }
         ensures lowest { LowestSlot (lists_of self.now) (positions self.now) (held_now (M.carries medium.now) (lists_of self.now) held (positions self.now)) result }
         ensures covers { Covers (held_now (M.carries medium.now) (lists_of self.now) held (positions self.now)) (length (lists_of self.now)) looks.new }

@@ -1,4 +1,4 @@
-use Rattle.std.proofs.Common.{length, sym, ◌∙◌}
+use Rattle.std.proofs.Common.{length}
 use Rattle.copies.proofs.Kept.{kept_sound}
 use Rattle.rules.specs.Boards.{lists_of, positions}
 use Rattle.rules.specs.Held.{held_now}

@@ -1,4 +1,4 @@
-use Rattle.std.proofs.Common.{◌≡◌, Bool, false, not, ◌&&◌, length, Some, sym, ap, ◌∙◌, ap₂}
+use Rattle.std.proofs.Common.{Bool, not, ◌&&◌, length, sym, ap, ◌∙◌, ap₂}
 use Rattle.std.proofs.lemmas.Bool.{and_left, and_right}
 use Rattle.copies.specs.Kept.{kept}
 use Rattle.copies.proofs.Kept.{kept_sound}
