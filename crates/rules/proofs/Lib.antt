@@ -7,4 +7,4 @@ pub mod Drove
 pub mod Ended
 pub mod Staying
 pub mod Bits
-pub mod Looks
+pub mod Candidates

@@ -36,22 +36,22 @@ impl Board {
         }
     }
 
-    // The lowest of the instances to look at that may run, and not by the event that is held, with its next event. Those below it are struck out: they may not.
+    // The lowest of the candidates that may run, and not by the event that is held, with its next event. The candidates below it are struck out: they may not.
     fn lowest_among<M: Medium>(
         &self,
         medium: &M,
         held: Option<Held>,
-        looks: &mut Instances,
+        candidates: &mut Instances,
     ) -> Option<(usize, Slot)>
-        requires { Covers (held_now (M.carries medium.now) (lists_of self.now) held (positions self.now)) (length (lists_of self.now)) looks.old }
+        requires { Covers (held_now (M.carries medium.now) (lists_of self.now) held (positions self.now)) (length (lists_of self.now)) candidates.old }
         ensures lowest { LowestSlot (lists_of self.now) (positions self.now) (held_now (M.carries medium.now) (lists_of self.now) held (positions self.now)) result }
-        ensures covers { Covers (held_now (M.carries medium.now) (lists_of self.now) held (positions self.now)) (length (lists_of self.now)) looks.new }
+        ensures covers { Covers (held_now (M.carries medium.now) (lists_of self.now) held (positions self.now)) (length (lists_of self.now)) candidates.new }
     {
-        while let Some(j) = looks.lowest() {
+        while let Some(j) = candidates.lowest() {
             if let Some(slot) = self.runnable(medium, held, j) {
                 return Some((j, slot));
             }
-            looks.remove(j);
+            candidates.remove(j);
         }
         None
     }
@@ -66,18 +66,18 @@ impl Board {
 
     // The buffer is the caller's, and so is the count: a run has no heap.
     // Makes as many lowest-numbered steps as the buffer is long, or until none is left, and writes their instances.
-    // A step leaves what may run of every instance but its own and the peer of its event, so only those two are looked at anew.
+    // A step leaves what may run of every instance but the one that steps and the peer of its event, so of those struck out only the peer is a candidate again.
     pub fn drive<M: Medium>(&mut self, medium: &M, held: Option<Held>, out: &mut [u8]) -> usize
         ensures keeps { self.new.copy ≡ self.old.copy }
         ensures wrote { Wrote (drive_of (M.carries medium.now) self.old held (length out.old)) self.old.rows.table self.new.rows.table out.old out.new }
         ensures made { result ≡ length (drive_of (M.carries medium.now) self.old held (length out.old)) }
     {
-        let mut looks = Instances::all();
+        let mut candidates = Instances::all();
         for (made, cell) in out.iter_mut().enumerate() {
-            let Some((i, slot)) = self.lowest_among(medium, held, &mut looks) else {
+            let Some((i, slot)) = self.lowest_among(medium, held, &mut candidates) else {
                 return made;
             };
-            looks.insert(usize::from(slot.event.peer));
+            candidates.insert(usize::from(slot.event.peer));
             self.step(i, slot);
             *cell = i as u8;
         }

@@ -5,7 +5,7 @@ use Rattle.copies.proofs.Kept.{kept_sound}
 use Rattle.rules.specs.Boards.{lists_of, positions}
 use Rattle.rules.specs.Held.{held_now}
 use Rattle.rules.proofs.Drove.{turns_none, turns_stop, turn_more, turn_stop, fits_byte}
-use Rattle.rules.proofs.Looks.{covers_all, covers_on}
+use Rattle.rules.proofs.Candidates.{covers_all, covers_on}
 use Rattle.rules.proofs.board.Board.drive.Goals as goal
 
 pub loop-made-init : goal.loop-made-init
@@ -14,7 +14,7 @@ loop-made-init g c =
     let M = g.M.Medium.carries c.args.medium.now in (
       refl,
       turns_none (held_now M (kept b.copy) c.args.held) (length (kept b.copy)) b.rows.table c.args.out.now,
-      covers_all (held_now M (lists_of b) c.args.held (positions b)) (length (lists_of b)) c.all-looks.result (kept_sound b.copy).few_instances c.all-looks.ensures,
+      covers_all (held_now M (lists_of b) c.args.held (positions b)) (length (lists_of b)) c.all-candidates.result (kept_sound b.copy).few_instances c.all-candidates.ensures,
     )
 
 pub returns-in_default : goal.returns-in_default
@@ -40,6 +40,6 @@ loop-made-preserved g c =
       c.step.ensures.keeps ∙ l.invariant.0,
       turn_more M L c.args.held (kept l.self.copy) (ap kept (sym l.invariant.0)) l.made _ l.self.rows.table _ c.args.out.now l.out c.in-Some.i
           l.invariant.1 (omega arith) c.in-Some.ensures.lowest.0 c.step.ensures.moves,
-      covers_on M c.args.held l.self c.step.new.self c.step.ensures.keeps c.lowest_among.new.looks c.insert.new.self c.in-Some.ensures.covers c.in-Some.i c.in-Some.ensures.lowest.0
+      covers_on M c.args.held l.self c.step.new.self c.step.ensures.keeps c.lowest_among.new.candidates c.insert.new.self c.in-Some.ensures.covers c.in-Some.i c.in-Some.ensures.lowest.0
           c.in-Some.slot c.in-Some.ensures.lowest.1 c.from.result c.from.ensures c.insert.ensures c.step.ensures.moves,
     )

@@ -10,4 +10,4 @@ abbrev pub invariant-loop-made : goal.invariant-loop-made
 invariant-loop-made g l =
     (l.self.copy ≡ l.initial.self.copy)
     × Turns (held_now (g.M.Medium.carries l.medium) (kept l.initial.self.copy) l.held) (length (kept l.initial.self.copy)) l.made l.initial.self.rows.table l.self.rows.table l.initial.out l.out
-    × Covers (held_now (g.M.Medium.carries l.medium) (kept l.self.copy) l.held (positions l.self)) (length (kept l.self.copy)) l.looks
+    × Covers (held_now (g.M.Medium.carries l.medium) (kept l.self.copy) l.held (positions l.self)) (length (kept l.self.copy)) l.candidates

@@ -2,7 +2,7 @@ use Rattle.std.proofs.Common.{length}
 use Rattle.copies.proofs.Kept.{kept_sound}
 use Rattle.rules.specs.Boards.{lists_of, positions}
 use Rattle.rules.specs.Held.{held_now}
-use Rattle.rules.proofs.Looks.{covers_all}
+use Rattle.rules.proofs.Candidates.{covers_all}
 use Rattle.rules.proofs.board.Board.lowest.Goals as goal
 
 pub lowest_among-requires : goal.lowest_among-requires

@@ -1,10 +1,12 @@
--- A search for the lowest among the instances to look at, and what is to look at after a step.
+-- A search for the lowest among candidates, and what the candidates are after a step.
 use Rattle.std.proofs.Common.{◌≡◌, ℕ, ◌<◌, ◌≤◌, Bool, true, false, not, ◌&&◌, ◌||◌, eqb, List, length, Some, None, Option, sym, refl, ap, ◌∙◌, subst, inl, inr, arith}
 use Rattle.std.proofs.lemmas.Bool.{cases_eq, eq-eqb, ne_eqb, ltb-true, or_parts, both_ways}
 use mathlib.Core.Path.{fun_ext}
 use Rattle.charts.specs.declared.parts.Event.{Event}
 use Rattle.charts.specs.Lists.{count_of, event_of}
 use Rattle.charts.specs.Sound.{Sound}
+use Rattle.copies.specs.declared.parts.Slot.{Slot}
+use Rattle.copies.specs.Slots.{slot_at}
 use Rattle.copies.specs.Kept.{kept}
 use Rattle.copies.proofs.Kept.{kept_sound}
 use Rattle.media.specs.Carry.{Carry}
@@ -17,8 +19,6 @@ use Rattle.rules.specs.declared.instances.Instances.{Instances}
 use Rattle.rules.specs.Boards.{lists_of, positions}
 use Rattle.rules.specs.Held.{held_now, some_below}
 use Rattle.rules.specs.Instances.{has, Covers}
-use Rattle.copies.specs.declared.parts.Slot.{Slot}
-use Rattle.copies.specs.Slots.{slot_at}
 use Rattle.rules.proofs.Allowing.{slot_there}
 use Rattle.rules.proofs.Found.{found}
 use Rattle.rules.proofs.Drove.{below_some, held_unfinished}
@@ -29,11 +29,11 @@ module _ (test : ℕ → Bool) (n : ℕ) (s : Instances) where
   pub covers_all : n ≤ 32 → ((i : ℕ) → i < 32 → has s i ≡ true) → Covers test n s
   covers_all few all j l f = absurd (both_ways (has s j) f (all j (omega arith)))
 
-  -- the lowest to look at is found where it passes
+  -- the lowest candidate is found where it passes
   pub covered_found : Covers test n s → (i : ℕ) → i < n → test i ≡ true → ((j : ℕ) → j < i → has s j ≡ false) → Some i ≡ some_below n (lowest test n)
   covered_found covers i h t below = found test n (Some i) (omega arith, h, t, λ k _ l. covers k (omega arith) (below k l))
 
-  -- none passes where none is left to look at
+  -- none passes where no candidate is left
   pub covered_none : n ≤ 32 → Covers test n s → ((j : ℕ) → j < 32 → has s j ≡ false) → None ≡ some_below n (lowest test n)
   covered_none few covers none = found test n None (λ k _ l. covers k l (none k (omega arith)))
 
@@ -54,7 +54,7 @@ module _ (M : Carry) (L : List (List Event)) (sound : Sound L) (held : Option He
   pub may_width : (i : ℕ) → held_now M L held p i ≡ true → i < length L
   may_width i t = at_width L sound i (p i) (event_of L i (p i)) (record { within = ltb-true (p i) (count_of L i) (held_unfinished M L held p i t); is = refl })
 
-  -- after a step of i, it and the peer of its event are to look at, besides those that were
+  -- after a step of i, the peer of its event is a candidate, and all that were
   pub covers_stepped : ((j : ℕ) → p j ≤ count_of L j) → (s s' : Instances) → Covers (held_now M L held p) (length L) s → (i peer : ℕ) → held_now M L held p i ≡ true →
       peer ≡ (event_of L i (p i)).peer → ((j : ℕ) → j < 32 → has s' j ≡ (has s j || eqb j peer)) → (q : ℕ → ℕ) → ((j : ℕ) → q j ≡ moved p i j) →
       Covers (held_now M L held q) (length L) s'
@@ -70,7 +70,7 @@ module _ (M : Carry) (L : List (List Event)) (sound : Sound L) (held : Option He
       not_peer : eqb j peer ≡ false → (event_of L i (p i)).peer ≡ j → ⊥
       not_peer g same = both_ways (eqb j peer) g (eq-eqb j peer (sym (is ∙ same)))
 
--- the instances to look at, from one turn of a drive to the next
+-- the candidates, from one turn of a drive to the next
 module _ (M : Carry) (held : Option Held) (b b' : Board) (same : b'.copy ≡ b.copy) where
   abbrev test : ℕ → Bool
   test = held_now M (lists_of b) held (positions b)
