@@ -50,10 +50,13 @@ impl Indexed {
     }
 
     // Event k of instance i with what is fixed of it, none where there is no such event.
-    #[tactic(auto, using(crate::proofs::Kept::kept_slot))]
+    #[tactic(auto, using(crate::proofs::Kept::kept_slot, crate::proofs::Kept::slot_outside))]
     pub fn slot(&self, i: usize, k: usize) -> Option<Slot>
         ensures { result ≡ slot_at (kept self.now) i k }
     {
+        if i >= self.width() {
+            return None;
+        }
         self.grid.column(i).get(k).copied()
     }
 }

@@ -1,5 +1,5 @@
 -- The rule read off a slot is the rule of what may run.
-use Rattle.std.proofs.Common.{◌≡◌, ℕ, ◌<◌, ◌≤◌, false, cond, eqb, ltb, ◌⊎◌, List, [], length, Some, None, sym, refl, ap, ◌∙◌, subst, inl, inr, arith}
+use Rattle.std.proofs.Common.{◌≡◌, ℕ, ◌<◌, ◌≤◌, Bool, true, false, cond, not, ◌&&◌, eqb, ltb, ◌⊎◌, List, [], length, Some, None, Option, sym, refl, ap, ◌∙◌, subst, inl, inr, arith}
 use Rattle.std.proofs.lemmas.List.{get_or_past}
 use Rattle.std.proofs.lemmas.Bool.{cases_eq, cases_lt, eq-eqb, ne_eqb, eqb-false, lt-ltb, le-ltb, ltb-false, and_cases, or_parts, cases_Bool, cond-true, cond-false}
 use Rattle.charts.specs.declared.parts.Event.{Event}
@@ -7,10 +7,12 @@ use Rattle.charts.specs.Events.{event, output, input, action, environment, is_me
 use Rattle.charts.specs.Lists.{At, column, count_of, event_of}
 use Rattle.charts.specs.Sound.{Sound}
 use Rattle.media.specs.Carry.{Carry}
-use Rattle.orders.specs.Deciding.{output_place, input_place, sent_at, may_run_at, waits_for_at}
+use Rattle.orders.specs.Deciding.{output_place, input_place, sent_at, may_run_at, may_now_at, waits_for_at}
 use Rattle.copies.specs.declared.parts.Slot.{Slot}
 use Rattle.copies.specs.Slots.{between, mate_of, ahead_of, slot_of, slot_at}
 use Rattle.rules.specs.declared.row.Row.{Row}
+use Rattle.rules.specs.declared.held.Held.{Held}
+use Rattle.rules.specs.Held.{held_now, is_held}
 use Rattle.rules.specs.Places.{place_of, sent_of, Tallied}
 use Rattle.rules.specs.Rules.{slot_may, slot_waits}
 
@@ -74,6 +76,24 @@ slot_there L i k x e =
           let z : ◌≡◌ {A = ℕ} 0 1 = cc in
           omega arith)
     ]
+
+-- whether the next event may run, read off its slot
+pub slot_says : (M : Carry) (L : List (List Event)) → Sound L → (rows : List Row) → Tallied L rows → (i : ℕ) (x : Slot) → slot_at L i (place_of rows i) ≡ Some x →
+    slot_may M (length L) (place_of rows) (sent_of rows) i x ≡ may_now_at M L (place_of rows) i
+slot_says M L sound rows tallied i x e =
+    let s = slot_there L i (place_of rows i) x e in
+    ap (slot_may M (length L) (place_of rows) (sent_of rows) i) s.1 ∙ slot_may_lem M L sound rows tallied i s.0
+    ∙ ap (λ (b : Bool). b && may_run_at M L (place_of rows) i (event_of L i (place_of rows i))) (sym (lt-ltb (place_of rows i) (count_of L i) s.0))
+
+-- and whether it is another than the one that is held
+pub slot_says_held : (M : Carry) (L : List (List Event)) → Sound L → (rows : List Row) → Tallied L rows → (held : Option Held) (i : ℕ) (x : Slot) → slot_at L i (place_of rows i) ≡ Some x →
+    held_now M L held (place_of rows) i ≡ (slot_may M (length L) (place_of rows) (sent_of rows) i x && not (is_held held (place_of rows) i))
+slot_says_held M L sound rows tallied None i x e = sym (slot_says M L sound rows tallied i x e) ∙ and_true (slot_may M (length L) (place_of rows) (sent_of rows) i x)
+  where
+    and_true : (b : Bool) → b ≡ (b && true)
+    and_true true = refl
+    and_true false = refl
+slot_says_held M L sound rows tallied (Some h) i x e = ap (λ (b : Bool). b && not (is_held (Some h) (place_of rows) i)) (sym (slot_says M L sound rows tallied i x e))
 
 -- what is waited for, read off a slot
 pub slot_waits_lem : (L : List (List Event)) → Sound L → (p : ℕ → ℕ) (i k : ℕ) → k < count_of L i → slot_waits p i (slot_of L i k) ≡ waits_for_at L p i (event_of L i k)

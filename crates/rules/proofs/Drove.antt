@@ -1,5 +1,5 @@
 -- A drive, as a loop makes it.
-use Rattle.std.proofs.Common.{◌≡◌, ℕ, suc, ◌+◌, ◌<◌, ◌≤◌, Bool, true, cond, not, ◌&&◌, eqb, ltb, List, [], ◌∷◌, ◌++◌, length, get_or, drop, set, Some, None, Option, sym, refl, ap, ◌∙◌, subst, inl, inr, add-one, arith, drop-cons}
+use Rattle.std.proofs.Common.{◌≡◌, ℕ, suc, ◌+◌, ◌<◌, ◌≤◌, Bool, true, not, ◌&&◌, eqb, ltb, List, [], ◌∷◌, ◌++◌, length, get_or, drop, set, Some, None, Option, sym, refl, ap, ◌∙◌, subst, inl, inr, add-one, arith, drop-cons}
 use mathlib.Core.Path.{fun_ext}
 use Rattle.std.proofs.lemmas.List.{append_assoc, length_push, set_at}
 use Rattle.std.proofs.lemmas.Bool.{cases_lt, lt-ltb, le-ltb, and_parts, cond-true, cond-false}
@@ -9,7 +9,6 @@ use Rattle.charts.specs.Sound.{Sound}
 use Rattle.media.specs.Carry.{Carry}
 use Rattle.orders.specs.Deciding.{unfinished, may_run_at, may_now_at}
 use Rattle.orders.specs.Driving.{lowest, moved, moved_by, driven}
-use Rattle.orders.proofs.Lowest.{lowest_passes}
 use Rattle.orders.proofs.Driving.{moved_by_push, driven_more, driven_stops}
 use Rattle.rules.specs.declared.row.Row.{Row}
 use Rattle.rules.specs.Places.{place_of}
@@ -101,27 +100,12 @@ module _ (M : Carry) (L : List (List Event)) (held : Option Held) where
   Found K rows = some_below (length K) (lowest (held_now M K held (place_of rows)) (length K))
 
   -- one turn more
-  turn : (k : ℕ) (before now next : List Row) (out mid : List ℕ) (i : ℕ) → Turns (held_now M L held) (length L) k before now out mid → k < length out →
-      Some i ≡ Found L now → ((j : ℕ) → place_of next j ≡ cond (unfinished L (place_of now) i) (moved (place_of now) i j) (place_of now j)) →
-      Turns (held_now M L held) (length L) (k + 1) before next out (set mid k i)
-  turn k before now next out mid i so h found moves =
-      let test = held_now M L held in
-      let f = below_some (length L) (lowest (test (place_of now)) (length L)) i found in
-      let is = f.0 in
-      let low = f.1 in
-      let t : test (place_of now) i ≡ true =
-      subst (λ (x : ℕ). test (place_of now) x ≡ true) is (lowest_passes (test (place_of now)) (length L) (omega arith)) in
-      let u = held_unfinished M L held (place_of now) i t in
-      turns_more test (length L) k before now next out mid (set mid k i) i so h is low
-      (λ j. moves j ∙ cond-true (unfinished L (place_of now) i) (moved (place_of now) i j) (place_of now j) u) refl
-
   pub turn_more : (K : List (List Event)) → L ≡ K → (k : ℕ) (before now next : List Row) (out mid : List ℕ) (i : ℕ) →
-      Turns (held_now M L held) (length L) k before now out mid → k < length out →
-      Some i ≡ Found K now → ((j : ℕ) → place_of next j ≡ cond (unfinished K (place_of now) i) (moved (place_of now) i j) (place_of now j)) →
+      Turns (held_now M L held) (length L) k before now out mid → k < length out → Some i ≡ Found K now → ((j : ℕ) → place_of next j ≡ moved (place_of now) i j) →
       Turns (held_now M L held) (length L) (k + 1) before next out (set mid k i)
-  turn_more K same k before now next out mid i so h =
-      subst (λ (X : List (List Event)). Some i ≡ Found X now → ((j : ℕ) → place_of next j ≡ cond (unfinished X (place_of now) i) (moved (place_of now) i j) (place_of now j)) →
-      Turns (held_now M L held) (length L) (k + 1) before next out (set mid k i)) same (turn k before now next out mid i so h)
+  turn_more K same k before now next out mid i so h found moves =
+      let f = below_some (length L) (lowest (held_now M L held (place_of now)) (length L)) i (subst (λ (X : List (List Event)). Some i ≡ Found X now) (sym same) found) in
+      turns_more (held_now M L held) (length L) k before now next out mid (set mid k i) i so h f.0 f.1 moves refl
 
   -- none is left
   pub turn_stop : (K : List (List Event)) → L ≡ K → (now : List Row) → None ≡ Found K now → length L ≤ lowest (held_now M L held (place_of now)) (length L)

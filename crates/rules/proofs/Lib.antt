@@ -5,3 +5,6 @@ pub mod Found
 pub mod Made
 pub mod Drove
 pub mod Ended
+pub mod Staying
+pub mod Bits
+pub mod Candidates

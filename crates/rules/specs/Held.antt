@@ -1,10 +1,15 @@
 -- What a drive can make that holds an event back.
-use Rattle.std.specs.Prelude.{ℕ, Bool, cond, List, Some, None, Option, nat_lt}
+use Rattle.std.specs.Prelude.{ℕ, Bool, false, cond, ◌&&◌, ◌==◌, List, Some, None, Option, nat_lt}
 use Rattle.charts.specs.declared.parts.Event.{Event}
 use Rattle.media.specs.Carry.{Carry}
 use Rattle.orders.specs.Deciding.{may_now_at}
 use Rattle.orders.specs.Driving.{other_now}
 use Rattle.rules.specs.declared.held.Held.{Held}
+
+-- the next event of instance j at the positions p is the one that is held
+abbrev pub is_held : Option Held → (ℕ → ℕ) → ℕ → Bool
+is_held None p j = false
+is_held (Some x) p j = j == x.instance && p x.instance == x.event
 
 -- instance j may run at the positions p, and not by the event that is held
 abbrev pub held_now : Carry → List (List Event) → Option Held → (ℕ → ℕ) → ℕ → Bool

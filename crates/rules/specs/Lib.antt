@@ -1,4 +1,5 @@
 pub mod Places
+pub mod Instances
 pub mod Rules
 pub mod Held
 pub mod Drove

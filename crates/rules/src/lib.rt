@@ -7,6 +7,7 @@ mod board;
 mod driving;
 mod ending;
 mod held;
+mod instances;
 mod may;
 mod passing;
 mod row;

@@ -18,7 +18,7 @@ impl Board {
     }
 
     // Whether the slot's event, the next of instance i, may run.
-    fn allows<M: Medium>(&self, medium: &M, i: usize, slot: Slot) -> bool
+    pub(crate) fn allows<M: Medium>(&self, medium: &M, i: usize, slot: Slot) -> bool
         ensures { result ≡ slot_may (M.carries medium.now) (length (lists_of self.now)) (positions self.now) (sent_of self.now.rows.table) i slot }
     {
         let width = self.copy.width();

@@ -16,7 +16,7 @@ use Rattle.rules.specs.Places.{place_of, sent_of, Within, Tallied}
 use Rattle.rules.specs.Rules.{mate_ran, sends_now, receives_now}
 use Rattle.rules.proofs.Allowing.{slot_there}
 use Rattle.rules.proofs.Stepped.{below, send_fits, was_sent, still_within, still_tallied}
-use Rattle.rules.proofs.board.Board.advance.Goals as goal
+use Rattle.rules.proofs.board.Board.step.Goals as goal
 
 -- the next event of an unfinished instance, as the calls were told of it
 module _ (b : Board) (i : ℕ) (x : Slot) (next : slot_at (kept b.copy) i (place_of b.rows.table i) ≡ Some x)
@@ -87,8 +87,8 @@ pub pass-requires : goal.pass-requires
 pass-requires c =
     let b = c.args.self.now in
     let i = c.args.i in
-    let x = c.in-Some.slot in
-    let e = sym c.next.ensures ∙ c.in-Some.is in
+    let x = c.args.slot in
+    let e = c.requires.next in
     let w = c.width-width.result in
     let r = c.mate_ran-ran.result in
     record {
@@ -102,8 +102,8 @@ pub advance-requires : goal.advance-requires
 advance-requires c =
     let b = c.args.self.now in
     let i = c.args.i in
-    let x = c.in-Some.slot in
-    let e = sym c.next.ensures ∙ c.in-Some.is in
+    let x = c.args.slot in
+    let e = c.requires.next in
     let n = low b i x e c.width-width.result c.width-width.ensures c.mate_ran-ran.result c.mate_ran-ran.ensures in
     let p = c.pass.ensures.places i in
     let w = b.within i in
@@ -115,8 +115,8 @@ pub invariant_of-self : goal.invariant_of-self
 invariant_of-self c =
     let b = c.args.self.now in
     let i = c.args.i in
-    let x = c.in-Some.slot in
-    let e = sym c.next.ensures ∙ c.in-Some.is in
+    let x = c.args.slot in
+    let e = c.requires.next in
     let w = c.width-width.result in
     let r = c.mate_ran-ran.result in
     let mid = c.pass.new.self.table in
