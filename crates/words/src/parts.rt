@@ -14,4 +14,3 @@ pub enum Piece<'t> {
     // the end of the text, whose length this is
     End(usize),
 }
-
