@@ -24,7 +24,7 @@ use Rattle.runs.specs.Answers.{Answers}
 use Rattle.runs.specs.Histories.{After}
 use Rattle.runs.specs.Stands.{Stands}
 use Rattle.runs.specs.Made.{Makes}
-use Rattle.runs.specs.Replays.{TurnMade, Replayed}
+use Rattle.runs.specs.Replays.{TurnMade, StartsFull, Replayed}
 
 module _ (M : Carry) (L : List (List Event)) (sound : Sound L) where
   -- there is one history after a call
@@ -55,12 +55,19 @@ module _ (M : Carry) (L : List (List Event)) (sound : Sound L) where
   after_order None h Judge room g o a = subst (Order M L) (sym a) o
   after_order None h (Latest i j) room g o a = subst (Order M L) (sym a) o
 
+  starts_full : (h : List ℕ) → Order M L h → StartsFull M L h
+  starts_full h order =
+      record {
+        order = order;
+        goes_on = λ f full. (driven (may_now_at M L) (length L) (size L) (pos h), driven_full M L sound h order (size L) (omega arith) f full);
+      }
+
   turn_made : (t : Option Fault) (h : List ℕ) (x y : Turn) (rows : List Row) → Order M L h → (m : Makes t M L h x y rows) → TurnMade t M L h x y m.made.next
   turn_made t h x y rows order m =
       let room = length (vec_items x.buffer) in
       record {
         order = order;
-        goes_on = λ f full. (driven (may_now_at M L) (length L) (size L) (pos h), driven_full M L sound h order (size L) (omega arith) f full);
+        goes_on = (starts_full h order).goes_on;
         call = m.call;
         room = m.room;
         answered = subst (λ (a : Option Answer). Answers t M L h x.call (vec_items x.buffer) a (vec_items y.buffer)) (sym m.noted) m.made.answered;
@@ -69,12 +76,12 @@ module _ (M : Carry) (L : List (List Event)) (sound : Sound L) where
       }
 
   -- one turn more
-  replayed_push : (t : Option Fault) (h : List ℕ) (xs ys : List Turn) (g : List ℕ) (x y : Turn) (k : List ℕ) → Replayed t M L h xs ys g → TurnMade t M L g x y k →
+  replayed_push : (t : Option Fault) (h : List ℕ) (xs ys : List Turn) (g : List ℕ) (x y : Turn) (k : List ℕ) → Replayed t M L h xs ys g → TurnMade t M L g x y k → Order M L k →
       Replayed t M L h (xs ++ (x ∷ [])) (ys ++ (y ∷ [])) k
-  replayed_push t h [] [] g x y k r m = (k, subst (λ (z : List ℕ). TurnMade t M L z x y k) r m, refl)
-  replayed_push t h [] (y' ∷ ys) g x y k r m = absurd r
-  replayed_push t h (x' ∷ xs) [] g x y k r m = absurd r
-  replayed_push t h (x' ∷ xs) (y' ∷ ys) g x y k r m = (r.0, r.1, replayed_push t r.0 xs ys g x y k r.2 m)
+  replayed_push t h [] [] g x y k r m o = (k, subst (λ (z : List ℕ). TurnMade t M L z x y k) r.0 m, (refl, starts_full k o))
+  replayed_push t h [] (y' ∷ ys) g x y k r m o = absurd r
+  replayed_push t h (x' ∷ xs) [] g x y k r m o = absurd r
+  replayed_push t h (x' ∷ xs) (y' ∷ ys) g x y k r m o = (r.0, r.1, replayed_push t r.0 xs ys g x y k r.2 m o)
 
   -- after k turns
   pub record Progress (t : Option Fault) (k : ℕ) (before now : List Turn) (rows : List Row) : Type 0 where
@@ -85,7 +92,7 @@ module _ (M : Carry) (L : List (List Event)) (sound : Sound L) where
     pub rest : drop k now ≡ drop k before
 
   pub progress_none : (t : Option Fault) (turns : List Turn) (rows : List Row) → Stands rows [] → Progress t 0 turns turns rows
-  progress_none t turns rows s = record { history = []; order = steps_none (May M L); replayed = refl; stands = s; rest = refl }
+  progress_none t turns rows s = record { history = []; order = steps_none (May M L); replayed = (refl, starts_full [] (steps_none (May M L))); stands = s; rest = refl }
 
   same_there : (k : ℕ) (before now : List Turn) (x : Turn) → drop k now ≡ drop k before → get_or now k x ≡ get_or before k x
   same_there k before now x e = sym (at_drop k now x) ∙ ap (λ (zs : List Turn). get_or zs 0 x) e ∙ at_drop k before x
@@ -108,7 +115,7 @@ module _ (M : Carry) (L : List (List Event)) (sound : Sound L) where
         order = after_order t p.history x.call (length (vec_items x.buffer)) m.made.next p.order m.made.history;
         replayed =
             subst₂ (λ (xs ys : List Turn). Replayed t M L [] xs ys m.made.next) (sym here) (sym (take_more_set now k y l))
-            (replayed_push t [] (take k before) (take k now) p.history x y m.made.next p.replayed made);
+            (replayed_push t [] (take k before) (take k now) p.history x y m.made.next p.replayed made (after_order t p.history x.call (length (vec_items x.buffer)) m.made.next p.order m.made.history));
         stands = m.made.stands;
         rest = drop-set-lt (k + 1) now k y (omega arith) ∙ drop_one k now ∙ ap (drop 1) p.rest ∙ sym (drop_one k before);
       }

@@ -23,9 +23,14 @@ pub record TurnMade (t : Option Fault) (M : Carry) (L : List (List Event)) (h : 
   pub history : After t M L h x.call (length (vec_items x.buffer)) g
   pub only : (k : List ℕ) → After t M L h x.call (length (vec_items x.buffer)) k → k ≡ g
 
+-- the history h is an order, and if a full order exists, one starts with it
+pub record StartsFull (M : Carry) (L : List (List Event)) (h : List ℕ) : Type 0 where
+  pub order : Order M L h
+  pub goes_on : (f : List ℕ) → Full M L f → (v : List ℕ) × Full M L (h ++ v)
+
 -- the turns xs, made one after another from the history h on, have become ys, and g is the history then
 abbrev pub Replayed : Option Fault → Carry → List (List Event) → List ℕ → List Turn → List Turn → List ℕ → Type 0
-Replayed t M L h [] [] g = g ≡ h
+Replayed t M L h [] [] g = (g ≡ h) × StartsFull M L h
 Replayed t M L h [] (y ∷ ys) g = ⊥
 Replayed t M L h (x ∷ xs) [] g = ⊥
 Replayed t M L h (x ∷ xs) (y ∷ ys) g = (k : List ℕ) × TurnMade t M L h x y k × Replayed t M L k xs ys g
