@@ -1,5 +1,5 @@
 -- The tests agree with the relations.
-use Rattle.std.proofs.Common.{◌≡◌, ℕ, Bool, true, not, ◌&&◌, ◌↔◌, eqb, List, [], ◌∷◌, ◌++◌, length, sym, refl, subst, inl, inr, arith}
+use Rattle.std.proofs.Common.{◌≡◌, ℕ, Bool, true, not, ◌&&◌, ◌↔◌, ◌<◌, ◌≤◌, eqb, List, [], ◌∷◌, ◌++◌, length, sym, refl, subst, inl, inr, arith}
 use Rattle.std.proofs.lemmas.Bool.{and_parts, and_from, eqb-true, eq-eqb, lt-ltb, ltb-true, not-true, not_from_false, cases_lt}
 use Rattle.charts.specs.declared.parts.Event.{Event}
 use Rattle.charts.specs.Lists.{count_of}
@@ -9,7 +9,11 @@ use Rattle.orders.specs.Histories.{pos}
 use Rattle.orders.specs.May.{May, Waits}
 use Rattle.orders.specs.Orders.{Order, Ended, Full}
 use Rattle.orders.specs.Deciding.{unfinished, may_now, may_now_at, waits_now}
-use Rattle.orders.specs.Driving.{lowest, moved}
+use Rattle.orders.specs.Drives.{Drives}
+use Rattle.orders.specs.Rings.{Ring}
+use Rattle.orders.specs.Latest.{Latest}
+use Rattle.orders.specs.Driving.{lowest, moved, driven, latest_place}
+use Rattle.orders.specs.Walking.{ring_at}
 use Rattle.orders.proofs.Growing.{steps_none}
 use Rattle.orders.proofs.Decided.{waits_unfinished}
 use Rattle.orders.proofs.Deciding.{true_may, may_true, waits_now_lem, now_waits}
@@ -17,8 +21,9 @@ use Rattle.orders.proofs.Lowest.{lowest_most, lowest_passes}
 use Rattle.orders.proofs.Driving.{moved_pos}
 use Rattle.orders.proofs.Onwards.{Onwards, onwards_head, onwards_tail, onwards_cons}
 use Rattle.orders.proofs.Drives.{found_none}
-use Rattle.orders.proofs.Verdicts.{may_tested, none_unfinished}
-use Rattle.orders.proofs.Rings.{left_not_full}
+use Rattle.orders.proofs.Verdicts.{may_tested, none_unfinished, drives, drives_only}
+use Rattle.orders.proofs.LatestPlace.{latest_one, latest_place_lem}
+use Rattle.orders.proofs.Rings.{left_not_full, lowest_left, one_ring_at_end}
 use Rattle.computed.specs.Twins.{order_at, is_order, is_ended, is_full, waits_on}
 use Rattle.computed.specs.Computed.{Computed}
 
@@ -98,5 +103,31 @@ module _ (M : Carry) (L : List (List Event)) (sound : Sound L) where
       for : ℕ
       for = waits_now L (pos h) i
 
+  -- there is one drive, the one that is computed
+  pub drives_tie : (h : List ℕ) (n : ℕ) (w : List ℕ) → (w ≡ driven (may_now_at M L) (length L) n (pos h)) ↔ Drives M L h n w
+  drives_tie h n w = (λ is. subst (Drives M L h n) (sym is) (drives M L sound h n), drives_only M L sound h n w)
+
+  -- one ring
+  pub ring_tie : (e : List ℕ) → Order M L e → Ended M L e → (Full M L e → ⊥) → (r : List ℕ) → (r ≡ ring_at L (pos e)) ↔ Ring M L e r
+  ring_tie e order ended stuck r =
+      let one = one_ring_at_end M L sound e order ended (lowest_left M L sound e order ended stuck) in
+      (λ is. subst (Ring M L e) (sym is) one.ring, one.only r)
+
+  -- and one latest place
+  pub latest_tie : (h : List ℕ) → Order M L h → (i k : ℕ) → pos h i ≤ k → k < count_of L i → (f : List ℕ) → Full M L f → (n : ℕ) → (n ≡ latest_place M L h i k) ↔ Latest M L h i k n
+  latest_tie h order i k low high f full n =
+      let there = latest_place_lem M L sound h order i k low high f full in
+      (λ is. subst (Latest M L h i k) (sym is) there, λ l. latest_one M L h i k n (latest_place M L h i k) l there)
+
 pub computed : Computed
-computed = record { may = may_tie; order = order_tie; ended = ended_tie; full = full_tie; waits = waits_tie }
+computed =
+    record {
+      may = may_tie;
+      order = order_tie;
+      ended = ended_tie;
+      full = full_tie;
+      waits = waits_tie;
+      drives = drives_tie;
+      ring = ring_tie;
+      latest = latest_tie;
+    }

@@ -1,4 +1,4 @@
-// What may run, orders, their ends, full orders and waits as tests that code can compute. Each relation has its test, and a tie that says the two agree.
+// What may run, orders, their ends, full orders, waits, drives, rings and latest places as code can compute them, each with a tie that says that it is the relation.
 #![tactic(auto)]
 
 mod theorems;
