@@ -8,8 +8,8 @@ use Rattle.words.specs.declared.faults.Fault.{Fault}
 use Rattle.words.specs.Sentences.{Placed, Ending, semicolon, text_end, fault}
 
 -- the words of the grammar around instances
-abbrev pub frame_word : List ℕ → Bool
-frame_word w = bytes_eq w (codes "msc") || (bytes_eq w (codes "endmsc") || (bytes_eq w (codes "instance") || bytes_eq w (codes "endinstance")))
+abbrev pub structure_word : List ℕ → Bool
+structure_word w = bytes_eq w (codes "msc") || (bytes_eq w (codes "endmsc") || (bytes_eq w (codes "instance") || bytes_eq w (codes "endinstance")))
 
 -- those of events
 abbrev pub event_word : List ℕ → Bool
@@ -18,7 +18,7 @@ event_word w =
 
 -- they are no names
 abbrev pub reserved : List ℕ → Bool
-reserved w = frame_word w || event_word w
+reserved w = structure_word w || event_word w
 
 -- one of the words has these bytes
 abbrev pub among : List Placed → List ℕ → Bool

@@ -1,7 +1,7 @@
 ghost use Rattle.std.specs.Prelude.{◌≡◌, [], ◌∷◌, IfOk};
 ghost use Rattle.words.specs.Reading.{placed, first, left};
 ghost use Rattle.sentences.specs.Wants.{reads, name};
-ghost use Rattle.sentences.specs.Events.{EventRead, EventStandsIn, spelled, event_in, kind_in, message_in, if_read, peer_by, placed_peer};
+ghost use Rattle.sentences.specs.Events.{EventRead, EventStandsIn, event_words, event_in, kind_in, message_in, if_read, peer_by, placed_peer};
 ghost use Rattle.charts.specs.declared.kinds.Kind.TheVariants.{Action};
 
 use crate::names::{close, expect_word, read_name, read_peer, same};
@@ -22,20 +22,20 @@ fn named_peer<'t>(word: Word<'t>) -> Option<Word<'t>>
 // The rest of an event that inputs or outputs a message.
 fn read_message<'t>(
     reader: &mut Reader<'t>,
-    verb: Word<'t>,
+    keyword: Word<'t>,
     kind: Kind,
-    side: &[u8],
+    preposition: &[u8],
 ) -> Result<EventText<'t>, Fault>
-    ensures reads { EventRead (message_in (placed verb.entry) kind side.now (first (left reader.old))) (left reader.old) result (left reader.new) }
-    ensures stands { IfOk result (λ e. EventStandsIn reader.old.text.now (spelled e)) }
+    ensures reads { EventRead (message_in (placed keyword.entry) kind preposition.now (first (left reader.old))) (left reader.old) result (left reader.new) }
+    ensures stands { IfOk result (λ e. EventStandsIn reader.old.text.now (event_words e)) }
     ensures keeps { reader.new.text ≡ reader.old.text }
 {
     let name = read_name(reader)?;
-    expect_word(reader, side)?;
+    expect_word(reader, preposition)?;
     let peer = read_peer(reader)?;
     close(reader)?;
     Ok(EventText {
-        start: verb.start,
+        start: keyword.start,
         kind,
         name,
         peer: named_peer(peer),
@@ -43,15 +43,15 @@ fn read_message<'t>(
 }
 
 // The rest of an action.
-fn read_action<'t>(reader: &mut Reader<'t>, verb: Word<'t>) -> Result<EventText<'t>, Fault>
-    ensures reads { EventRead (if_read verb.entry.start Action (reads (name ∷ []) (first (left reader.old)).words (first (left reader.old)).ending)) (left reader.old) result (left reader.new) }
-    ensures stands { IfOk result (λ e. EventStandsIn reader.old.text.now (spelled e)) }
+fn read_action<'t>(reader: &mut Reader<'t>, keyword: Word<'t>) -> Result<EventText<'t>, Fault>
+    ensures reads { EventRead (if_read keyword.entry.start Action (reads (name ∷ []) (first (left reader.old)).words (first (left reader.old)).ending)) (left reader.old) result (left reader.new) }
+    ensures stands { IfOk result (λ e. EventStandsIn reader.old.text.now (event_words e)) }
     ensures keeps { reader.new.text ≡ reader.old.text }
 {
     let name = read_name(reader)?;
     close(reader)?;
     Ok(EventText {
-        start: verb.start,
+        start: keyword.start,
         kind: Kind::Action,
         name,
         peer: None,
@@ -74,18 +74,18 @@ fn kind_in(word: &[u8]) -> Option<Kind>
 }
 
 // The rest of the event whose first word was read.
-pub fn read_event<'t>(reader: &mut Reader<'t>, verb: Word<'t>) -> Result<EventText<'t>, Fault>
-    ensures reads { EventRead (event_in (placed verb.entry) (first (left reader.old))) (left reader.old) result (left reader.new) }
-    ensures stands { IfOk result (λ e. EventStandsIn reader.old.text.now (spelled e)) }
+pub fn read_event<'t>(reader: &mut Reader<'t>, keyword: Word<'t>) -> Result<EventText<'t>, Fault>
+    ensures reads { EventRead (event_in (placed keyword.entry) (first (left reader.old))) (left reader.old) result (left reader.new) }
+    ensures stands { IfOk result (λ e. EventStandsIn reader.old.text.now (event_words e)) }
     ensures keeps { reader.new.text ≡ reader.old.text }
 {
-    match kind_in(verb.bytes) {
-        Some(Kind::Input) => read_message(reader, verb, Kind::Input, b"from"),
-        Some(Kind::Output) => read_message(reader, verb, Kind::Output, b"to"),
-        Some(Kind::Action) => read_action(reader, verb),
+    match kind_in(keyword.bytes) {
+        Some(Kind::Input) => read_message(reader, keyword, Kind::Input, b"from"),
+        Some(Kind::Output) => read_message(reader, keyword, Kind::Output, b"to"),
+        Some(Kind::Action) => read_action(reader, keyword),
         None => Err(Fault {
             cause: Cause::WrongWord,
-            byte: verb.start,
+            byte: keyword.start,
         }),
     }
 }

@@ -1,7 +1,7 @@
 ghost use Rattle.std.specs.Prelude.{◌≡◌, IfOk};
 ghost use Rattle.std.specs.Str.{bytes_eq};
 ghost use Rattle.words.specs.Reading.{left, placed, StandsIn};
-ghost use Rattle.sentences.specs.Wants.{frame_word, event_word, reserved, exactly, name, peer};
+ghost use Rattle.sentences.specs.Wants.{structure_word, event_word, reserved, exactly, name, peer};
 ghost use Rattle.sentences.specs.Reading.{TakesWord, Takes, Closes};
 
 use words::{Cause, Fault, Piece, Reader, Word};
@@ -14,8 +14,8 @@ pub(crate) fn same(a: &[u8], b: &[u8]) -> bool
 }
 
 // Whether the word is one of the grammar's around instances.
-fn is_frame_word(word: &[u8]) -> bool
-    ensures { result ≡ frame_word word.now }
+fn is_structure_word(word: &[u8]) -> bool
+    ensures { result ≡ structure_word word.now }
 {
     same(word, b"msc")
         || same(word, b"endmsc")
@@ -39,7 +39,7 @@ fn is_event_word(word: &[u8]) -> bool
 fn is_reserved(word: &[u8]) -> bool
     ensures { result ≡ reserved word.now }
 {
-    is_frame_word(word) || is_event_word(word)
+    is_structure_word(word) || is_event_word(word)
 }
 
 // The next word of the sentence.

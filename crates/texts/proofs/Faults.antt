@@ -6,12 +6,12 @@ use Rattle.std.proofs.lemmas.Bool.{cond-true}
 use Rattle.words.specs.declared.faults.Cause.TheVariants.{WrongWord}
 use Rattle.words.specs.declared.faults.Fault.{Fault}
 use Rattle.words.specs.Sentences.{Placed, Sentence, Ending}
-use Rattle.words.specs.Reading.{first, begun_by}
+use Rattle.words.specs.Reading.{first, with_first_word}
 use Rattle.sentences.specs.Wants.{name, at_byte, no_word, word_fault, reserved, closed}
 use Rattle.texts.specs.declared.parts.Item.{Item as Read}
 use Rattle.texts.specs.declared.parts.Stage.{Stage}
 use Rattle.texts.specs.Items.{Items, instance_named, refused, with_item, if_closed, heading, outside_by, inside_by, items_from}
-use Rattle.texts.specs.Walks.{StepRead}
+use Rattle.texts.specs.Parsing.{StepRead}
 
 -- what is read is refused by the fault that is left
 pub by_fault : (before : Items) (after : List Sentence) (f : Fault) (r : Result (Read × Stage) Fault) → r ≡ Err f → before ≡ refused f → StepRead before r after
@@ -38,7 +38,7 @@ no_name (n ∷ ws) e f a is = go (reserved n.bytes) (with_item (instance_named n
     go true x same = let z : at_byte WrongWord n.start ≡ f = cc in ap refused z
     go false x same = cc
 
-pub no_heading : (v : Placed) (before mid : List Sentence) (f : Fault) → before ≡ begun_by v mid → bytes_eq v.bytes (codes "instance") ≡ true →
+pub no_heading : (v : Placed) (before mid : List Sentence) (f : Fault) → before ≡ with_first_word v mid → bytes_eq v.bytes (codes "instance") ≡ true →
     word_fault name (first mid).words (first mid).ending ≡ Some f → items_from false before ≡ refused f
 no_heading v before mid f is begins bad =
     ap (items_from false) is ∙ cond-true {A = Items} (bytes_eq v.bytes (codes "instance")) _ _ begins ∙ no_name (first mid).words (first mid).ending f _ bad

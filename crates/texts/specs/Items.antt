@@ -1,17 +1,17 @@
 -- What a chart text says, item by item.
 use Rattle.std.specs.Prelude.{Bool, true, false, cond, List, [], ◌∷◌, Ok, Err, Result, codes}
 use Rattle.std.specs.Str.{bytes_eq}
-use Rattle.words.specs.declared.faults.Cause.TheVariants.{WrongWord, BehindEnd}
+use Rattle.words.specs.declared.faults.Cause.TheVariants.{WrongWord, AfterEnd}
 use Rattle.words.specs.declared.faults.Fault.{Fault}
 use Rattle.words.specs.Sentences.{Placed, Sentence, Ending, semicolon, text_end, fault}
 use Rattle.words.specs.Reading.{first}
 use Rattle.sentences.specs.Wants.{at_byte, no_word, closed, reserved}
-use Rattle.sentences.specs.Events.{Spelled, event_in}
+use Rattle.sentences.specs.Events.{EventWords, event_in}
 
 -- an instance begins, with its name; an event of it; it ends
 pub data Item : Type 0 where
   instance_named : Placed → Item
-  event : Spelled → Item
+  event : EventWords → Item
   instance_ends : Item
 
 -- the items, and whether the text then ends as it should or is refused
@@ -33,11 +33,11 @@ if_closed (Ok ws) is = is
 if_closed (Err f) is = refused f
 
 -- an event before the others, or its fault
-abbrev pub if_event : Result Spelled Fault → Items → Items
+abbrev pub if_event : Result EventWords Fault → Items → Items
 if_event (Ok e) is = with_item (event e) is
 if_event (Err f) is = refused f
 
--- a heading behind its first word; its name counts also where its semicolon is missing
+-- a heading after its first word; its name counts also where its semicolon is missing
 abbrev pub heading : List Placed → Ending → Items → Items
 heading [] e inside = refused (no_word e)
 heading (n ∷ ws) e inside = cond (reserved n.bytes) (refused (at_byte WrongWord n.start)) (with_item (instance_named n) (if_closed (closed ws e) inside))
@@ -56,12 +56,12 @@ inside_by (v ∷ ws) e inside outside =
     cond (bytes_eq v.bytes (codes "endinstance")) (if_closed (closed ws e) (with_item instance_ends outside))
     (if_event (event_in v (record { words = ws; ending = e })) inside)
 
--- nothing may stand behind the end
+-- nothing may stand after the end
 abbrev pub nothing_in : List Placed → Ending → Result (Unit {0}) Fault
 nothing_in [] (text_end n) = Ok tt
-nothing_in [] (semicolon b) = Err (at_byte BehindEnd b)
+nothing_in [] (semicolon b) = Err (at_byte AfterEnd b)
 nothing_in [] (fault c b) = Err (at_byte c b)
-nothing_in (w ∷ ws) e = Err (at_byte BehindEnd w.start)
+nothing_in (w ∷ ws) e = Err (at_byte AfterEnd w.start)
 
 abbrev pub finished : List Sentence → Items
 finished l = record { items = []; outcome = nothing_in (first l).words (first l).ending }

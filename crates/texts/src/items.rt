@@ -2,10 +2,10 @@ ghost use Rattle.std.specs.Prelude.{◌≡◌, true, false, IfOk};
 ghost use Rattle.std.specs.Str.{bytes_eq};
 ghost use Rattle.words.specs.Reading.{left};
 ghost use Rattle.texts.specs.Items.{items_from};
-ghost use Rattle.texts.specs.Walks.{ItemStandsIn, StepRead, EndRead};
+ghost use Rattle.texts.specs.Parsing.{ItemStandsIn, StepRead, EndRead};
 
 use crate::parts::{Item, Stage};
-use crate::walk::Walk;
+use crate::parser::Parser;
 use sentences::{close, read_event, read_name, read_word};
 use words::{Cause, Fault, Piece, Reader};
 
@@ -16,7 +16,7 @@ fn same(a: &[u8], b: &[u8]) -> bool
     a == b
 }
 
-// That nothing stands behind the end.
+// That nothing stands after the end.
 fn read_end<'t>(reader: &mut Reader<'t>) -> Result<(), Fault>
     ensures reads { EndRead (left reader.old) result }
     ensures keeps { reader.new.text ≡ reader.old.text }
@@ -24,49 +24,49 @@ fn read_end<'t>(reader: &mut Reader<'t>) -> Result<(), Fault>
     match reader.next_piece()? {
         Piece::End(_) => Ok(()),
         Piece::Word(word) => Err(Fault {
-            cause: Cause::BehindEnd,
+            cause: Cause::AfterEnd,
             byte: word.start,
         }),
         Piece::Semicolon(byte) => Err(Fault {
-            cause: Cause::BehindEnd,
+            cause: Cause::AfterEnd,
             byte,
         }),
     }
 }
 
-// The next item between instances, and where the walk then stands.
+// The next item between instances, and where the parser then stands.
 pub(crate) fn read_outside<'t>(reader: &mut Reader<'t>) -> Result<(Item<'t>, Stage), Fault>
     ensures reads { StepRead (items_from false (left reader.old)) result (left reader.new) }
     ensures stands { IfOk result (λ r. ItemStandsIn reader.old.text.now r.0) }
     ensures keeps { reader.new.text ≡ reader.old.text }
 {
-    let verb = read_word(reader)?;
-    if same(verb.bytes, b"instance") {
+    let keyword = read_word(reader)?;
+    if same(keyword.bytes, b"instance") {
         let name = read_name(reader)?;
         return Ok((Item::Instance(name), Stage::Heading));
     }
-    if same(verb.bytes, b"endmsc") {
+    if same(keyword.bytes, b"endmsc") {
         close(reader)?;
         read_end(reader)?;
         return Ok((Item::End, Stage::Done));
     }
     Err(Fault {
         cause: Cause::WrongWord,
-        byte: verb.start,
+        byte: keyword.start,
     })
 }
 
-// The next item of an instance, and where the walk then stands.
+// The next item of an instance, and where the parser then stands.
 pub(crate) fn read_inside<'t>(reader: &mut Reader<'t>) -> Result<(Item<'t>, Stage), Fault>
     ensures reads { StepRead (items_from true (left reader.old)) result (left reader.new) }
     ensures stands { IfOk result (λ r. ItemStandsIn reader.old.text.now r.0) }
     ensures keeps { reader.new.text ≡ reader.old.text }
 {
-    let verb = read_word(reader)?;
-    if same(verb.bytes, b"endinstance") {
+    let keyword = read_word(reader)?;
+    if same(keyword.bytes, b"endinstance") {
         close(reader)?;
         return Ok((Item::InstanceEnd, Stage::Outside));
     }
-    let event = read_event(reader, verb)?;
+    let event = read_event(reader, keyword)?;
     Ok((Item::Event(event), Stage::Inside))
 }

@@ -5,8 +5,8 @@ mod items;
 mod parts;
 #[cfg(test)]
 mod tests;
-mod walk;
-mod walking;
+mod parser;
+mod parsing;
 
 pub use parts::{Item, Stage};
-pub use walk::Walk;
+pub use parser::Parser;

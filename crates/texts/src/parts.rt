@@ -14,17 +14,17 @@ pub enum Item<'t> {
     End,
 }
 
-// Where a walk through a chart text stands.
+// Where a parser of a chart text stands.
 #[derive(Clone, Copy, PartialEq, Eq, Debug)]
 pub enum Stage {
     // between instances
     Outside,
-    // behind the name of an instance
+    // after the name of an instance
     Heading,
     // inside an instance
     Inside,
-    // behind the end
+    // after the end
     Done,
-    // behind a fault
+    // after a fault
     Refused(Fault),
 }

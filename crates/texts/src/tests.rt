@@ -1,14 +1,14 @@
-use crate::{Item, Walk};
+use crate::{Item, Parser};
 use words::Fault;
 
 // How many instances and events a text has, of at most 255 each, or its fault.
 fn count(text: &[u8]) -> Result<(u8, u8), Fault> {
-    let (_, mut walk) = Walk::begin(text)?;
+    let (_, mut parser) = Parser::begin(text)?;
     let mut instances = 0u8;
     let mut events = 0u8;
     // no text has more items than bytes
     for _ in text {
-        match walk.next()? {
+        match parser.next()? {
             Item::Instance(_) => instances = instances.saturating_add(1),
             Item::Event(_) => events = events.saturating_add(1),
             Item::InstanceEnd => {}
@@ -33,7 +33,7 @@ fn texts_have_their_instances_and_events(rt: HostRuntime) {
             2,
             3,
         ),
-        // an instance named twice and an unknown peer are not the walk's
+        // an instance named twice and an unknown peer are not the parser's
         (
             b"msc c;instance a;endinstance;instance a;out m to x;endinstance;endmsc;",
             2,
@@ -68,7 +68,7 @@ fn texts_are_refused_at_their_byte(rt: HostRuntime) {
         (b"msc c d;", 23, 6),
         (b"msc c;instance a;in m to b;", 23, 22),
         (b"msc c;action a;", 23, 6),
-        // something stands behind the end
+        // something stands after the end
         (b"msc c;endmsc; ;", 28, 14),
         (b"msc c;endmsc;a", 28, 13),
     ];

@@ -4,15 +4,15 @@ use Rattle.std.proofs.lemmas.Bool.{lt-ltb, le-ltb, cond-true, cond-false}
 use Rattle.words.specs.declared.faults.Cause.TheVariants.{BadByte, LongWord}
 use Rattle.words.specs.Classes.{in_word, is_blank}
 use Rattle.words.specs.Sentences.{Placed, Sentence, semicolon, text_end, fault, with_word, sentences_from}
-use Rattle.words.specs.Reading.{begun_by, ended_by}
+use Rattle.words.specs.Reading.{with_first_word, ended_by}
 
 -- the word of these bytes that ends before the place `at`
 abbrev pub word_before : ℕ → List ℕ → Placed
 word_before at w = record { start = at - length w; bytes = w }
 
 -- what each kind of byte makes of the sentences, put together
-begun_cond : (p : Placed) (a b c d : Bool) (A B C D E A' B' C' D' E' : List Sentence) → A' ≡ begun_by p A → B' ≡ begun_by p B → C' ≡ begun_by p C → D' ≡ begun_by p D → E' ≡ begun_by p E →
-    cond a (cond b A' B') (cond c C' (cond d D' E')) ≡ begun_by p (cond a (cond b A B) (cond c C (cond d D E)))
+begun_cond : (p : Placed) (a b c d : Bool) (A B C D E A' B' C' D' E' : List Sentence) → A' ≡ with_first_word p A → B' ≡ with_first_word p B → C' ≡ with_first_word p C → D' ≡ with_first_word p D → E' ≡ with_first_word p E →
+    cond a (cond b A' B') (cond c C' (cond d D' E')) ≡ with_first_word p (cond a (cond b A B) (cond c C (cond d D E)))
 begun_cond p true true c d A B C D E A' B' C' D' E' u v x y z = u
 begun_cond p true false c d A B C D E A' B' C' D' E' u v x y z = v
 begun_cond p false b true d A B C D E A' B' C' D' E' u v x y z = x
@@ -24,7 +24,7 @@ with_word_begun p ws at [] = refl
 with_word_begun p ws at (b ∷ w) = refl
 
 -- a word before the others stays before them
-pub begun : (bs : List ℕ) (at : ℕ) (p : Placed) (ws : List Placed) (w : List ℕ) → sentences_from at (p ∷ ws) w bs ≡ begun_by p (sentences_from at ws w bs)
+pub begun : (bs : List ℕ) (at : ℕ) (p : Placed) (ws : List Placed) (w : List ℕ) → sentences_from at (p ∷ ws) w bs ≡ with_first_word p (sentences_from at ws w bs)
 begun [] at p ws w = ap (λ (xs : List Placed). record { words = xs; ending = text_end at } ∷ []) (with_word_begun p ws at w)
 begun (b ∷ bs) at p ws w =
     begun_cond p (in_word b) (ltb (length w) 16) (is_blank b) (b == 59) _ _ _ _ _ _ _ _ _ _
@@ -59,14 +59,14 @@ module _ (at : ℕ) (w : List ℕ) (b : ℕ) (bs : List ℕ) where
 -- a word that has begun ends before a blank, a semicolon and the end of the text
 module _ (at c : ℕ) (w : List ℕ) where
   pub ends_at_blank : (b : ℕ) (bs : List ℕ) → in_word b ≡ false → is_blank b ≡ true →
-      sentences_from at [] (c ∷ w) (b ∷ bs) ≡ begun_by (word_before at (c ∷ w)) (sentences_from at [] [] (b ∷ bs))
+      sentences_from at [] (c ∷ w) (b ∷ bs) ≡ with_first_word (word_before at (c ∷ w)) (sentences_from at [] [] (b ∷ bs))
   ends_at_blank b bs no_word blank =
-      at_blank at (c ∷ w) b bs no_word blank ∙ begun bs (at + 1) (word_before at (c ∷ w)) [] [] ∙ ap (begun_by (word_before at (c ∷ w))) (sym (at_blank at [] b bs no_word blank))
+      at_blank at (c ∷ w) b bs no_word blank ∙ begun bs (at + 1) (word_before at (c ∷ w)) [] [] ∙ ap (with_first_word (word_before at (c ∷ w))) (sym (at_blank at [] b bs no_word blank))
 
   pub ends_at_semicolon : (b : ℕ) (bs : List ℕ) → in_word b ≡ false → is_blank b ≡ false → (b == 59) ≡ true →
-      sentences_from at [] (c ∷ w) (b ∷ bs) ≡ begun_by (word_before at (c ∷ w)) (sentences_from at [] [] (b ∷ bs))
+      sentences_from at [] (c ∷ w) (b ∷ bs) ≡ with_first_word (word_before at (c ∷ w)) (sentences_from at [] [] (b ∷ bs))
   ends_at_semicolon b bs no_word no_blank semi =
-      at_semicolon at (c ∷ w) b bs no_word no_blank semi ∙ ap (begun_by (word_before at (c ∷ w))) (sym (at_semicolon at [] b bs no_word no_blank semi))
+      at_semicolon at (c ∷ w) b bs no_word no_blank semi ∙ ap (with_first_word (word_before at (c ∷ w))) (sym (at_semicolon at [] b bs no_word no_blank semi))
 
-  pub ends_at_end : sentences_from at [] (c ∷ w) [] ≡ begun_by (word_before at (c ∷ w)) (sentences_from at [] [] [])
+  pub ends_at_end : sentences_from at [] (c ∷ w) [] ≡ with_first_word (word_before at (c ∷ w)) (sentences_from at [] [] [])
   ends_at_end = refl

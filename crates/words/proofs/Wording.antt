@@ -6,7 +6,7 @@ use Rattle.std.proofs.Math.ListN.{drop_of_length-le}
 use Rattle.words.specs.declared.faults.Cause.TheVariants.{BadByte, LongWord}
 use Rattle.words.specs.Classes.{in_word, is_blank}
 use Rattle.words.specs.Sentences.{sentences_from}
-use Rattle.words.specs.Reading.{WordFrom, begun_by, word_in}
+use Rattle.words.specs.Reading.{WordFrom, with_first_word, word_in}
 use Rattle.words.proofs.Scanning.{more, too_long, bad, word_before, ends_at_blank, ends_at_semicolon, ends_at_end}
 use Rattle.words.proofs.Skipping.{byte_first}
 
@@ -21,16 +21,16 @@ spelled_none text start =
 
 -- a word that was begun ends before a blank, a semicolon or the end of the text
 before_blank : (at : ℕ) (w : List ℕ) → 1 ≤ length w → (b : ℕ) (bs : List ℕ) → in_word b ≡ false → is_blank b ≡ true →
-    sentences_from at [] w (b ∷ bs) ≡ begun_by (word_before at w) (sentences_from at [] [] (b ∷ bs))
+    sentences_from at [] w (b ∷ bs) ≡ with_first_word (word_before at w) (sentences_from at [] [] (b ∷ bs))
 before_blank at [] l = absurd (omega arith)
 before_blank at (c ∷ w) l = ends_at_blank at c w
 
 before_semicolon : (at : ℕ) (w : List ℕ) → 1 ≤ length w → (b : ℕ) (bs : List ℕ) → in_word b ≡ false → is_blank b ≡ false → (b == 59) ≡ true →
-    sentences_from at [] w (b ∷ bs) ≡ begun_by (word_before at w) (sentences_from at [] [] (b ∷ bs))
+    sentences_from at [] w (b ∷ bs) ≡ with_first_word (word_before at w) (sentences_from at [] [] (b ∷ bs))
 before_semicolon at [] l = absurd (omega arith)
 before_semicolon at (c ∷ w) l = ends_at_semicolon at c w
 
-before_end : (at : ℕ) (w : List ℕ) → 1 ≤ length w → sentences_from at [] w [] ≡ begun_by (word_before at w) (sentences_from at [] [] [])
+before_end : (at : ℕ) (w : List ℕ) → 1 ≤ length w → sentences_from at [] w [] ≡ with_first_word (word_before at w) (sentences_from at [] [] [])
 before_end at [] l = absurd (omega arith)
 before_end at (c ∷ w) l = ends_at_end at c w
 
@@ -85,8 +85,8 @@ module _ (text : List ℕ) (start k : ℕ) (so : Spelled text start k) where
     spelled_bad x y z = here ∙ bad (start + k) w b bs x y z
 
     -- what is left behind the word begins with the byte
-    behind : sentences_from (start + k) [] [] (b ∷ bs) ≡ sentences_from (start + k) [] [] (drop (start + k) text)
-    behind = ap (sentences_from (start + k) [] []) (sym (byte_first text start k l))
+    others : sentences_from (start + k) [] [] (b ∷ bs) ≡ sentences_from (start + k) [] [] (drop (start + k) text)
+    others = ap (sentences_from (start + k) [] []) (sym (byte_first text start k l))
 
     pub spelled_blank : 1 ≤ k → in_word b ≡ false → is_blank b ≡ true → WordFrom text start (Ok (start + k))
     spelled_blank some x y =
@@ -94,7 +94,7 @@ module _ (text : List ℕ) (start k : ℕ) (so : Spelled text start k) where
           omega arith,
           omega arith,
           let m = so.short in omega arith,
-          here ∙ before_blank (start + k) w (omega arith) b bs x y ∙ ap₂ begun_by (w_word (omega arith)) behind,
+          here ∙ before_blank (start + k) w (omega arith) b bs x y ∙ ap₂ with_first_word (w_word (omega arith)) others,
         )
 
     pub spelled_semicolon : 1 ≤ k → in_word b ≡ false → is_blank b ≡ false → (b == 59) ≡ true → WordFrom text start (Ok (start + k))
@@ -103,7 +103,7 @@ module _ (text : List ℕ) (start k : ℕ) (so : Spelled text start k) where
           omega arith,
           omega arith,
           let m = so.short in omega arith,
-          here ∙ before_semicolon (start + k) w (omega arith) b bs x y z ∙ ap₂ begun_by (w_word (omega arith)) behind,
+          here ∙ before_semicolon (start + k) w (omega arith) b bs x y z ∙ ap₂ with_first_word (w_word (omega arith)) others,
         )
 
   -- the text ends
@@ -116,5 +116,5 @@ module _ (text : List ℕ) (start k : ℕ) (so : Spelled text start k) where
         omega arith,
         let m = so.short in omega arith,
         so.same ∙ ap (sentences_from (start + k) [] w) none ∙ before_end (start + k) w (omega arith)
-            ∙ ap₂ begun_by (w_word (omega arith)) (ap (sentences_from (start + k) [] []) (sym none)),
+            ∙ ap₂ with_first_word (w_word (omega arith)) (ap (sentences_from (start + k) [] []) (sym none)),
       )

@@ -2,7 +2,7 @@
 use Rattle.std.specs.Prelude.{ℕ}
 use Rattle.charts.specs.Faults.{number_of as rule_number}
 use Rattle.words.specs.declared.faults.Cause.{Cause}
-use Rattle.words.specs.declared.faults.Cause.TheVariants.{BadByte, LongWord, WrongWord, TextEnds, InstanceRepeated, PeerUnknown, ShortTable, BehindEnd, Chart}
+use Rattle.words.specs.declared.faults.Cause.TheVariants.{BadByte, LongWord, WrongWord, TextEnds, InstanceRepeated, PeerUnknown, ShortTable, AfterEnd, Chart}
 
 -- the number of a cause, of a chart's that of the rule that it breaks
 abbrev pub number_of : Cause → ℕ
@@ -13,5 +13,5 @@ number_of TextEnds = 24
 number_of InstanceRepeated = 25
 number_of PeerUnknown = 26
 number_of ShortTable = 27
-number_of BehindEnd = 28
+number_of AfterEnd = 28
 number_of (Chart rule) = rule_number rule

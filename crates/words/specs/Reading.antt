@@ -9,7 +9,7 @@ use Rattle.words.specs.declared.classes.Class.TheVariants.{Blank}
 use Rattle.words.specs.Classes.{class_of}
 use Rattle.words.specs.Sentences.{Placed, Sentence, Ending, semicolon, text_end, fault, sentences_from}
 
--- what is left to read: the rest of a sentence, and the sentences behind it
+-- what is left to read: the rest of a sentence, and the sentences after it
 abbrev pub left : Reader → List Sentence
 left r = sentences_from r.at [] [] (drop r.at r.text.now)
 
@@ -18,14 +18,14 @@ abbrev pub first : List Sentence → Sentence
 first [] = record { words = []; ending = text_end 0 }
 first (s ∷ ss) = s
 
--- the sentences behind the first
-abbrev pub behind : List Sentence → List Sentence
-behind [] = []
-behind (s ∷ ss) = ss
+-- the sentences after the first
+abbrev pub others : List Sentence → List Sentence
+others [] = []
+others (s ∷ ss) = ss
 
 -- the same with a word before those of the first sentence
-abbrev pub begun_by : Placed → List Sentence → List Sentence
-begun_by w ss = record { words = w ∷ (first ss).words; ending = (first ss).ending } ∷ behind ss
+abbrev pub with_first_word : Placed → List Sentence → List Sentence
+with_first_word w ss = record { words = w ∷ (first ss).words; ending = (first ss).ending } ∷ others ss
 
 -- a sentence without words
 abbrev pub ended_by : Ending → Sentence
@@ -37,7 +37,7 @@ placed w = record { start = w.start; bytes = w.bytes.now }
 
 -- what was left begins with the piece that was read, or ends in the fault
 abbrev pub BeginsWith : List Sentence → Result Piece Fault → List Sentence → Type 0
-BeginsWith before (Ok (WordPiece w)) after = before ≡ begun_by (placed w) after
+BeginsWith before (Ok (WordPiece w)) after = before ≡ with_first_word (placed w) after
 BeginsWith before (Ok (Semicolon s)) after = before ≡ ended_by (semicolon s) ∷ after
 BeginsWith before (Ok (End n)) after = (before ≡ ended_by (text_end n) ∷ []) × (after ≡ before)
 BeginsWith before (Err f) after = (before ≡ ended_by (fault f.cause f.byte) ∷ []) × (after ≡ before)
@@ -69,5 +69,5 @@ word_in text start end = record { start = start; bytes = take (end - start) (dro
 -- a word starts at `start`, and ends before the place answered; or the fault stands in it
 abbrev pub WordFrom : List ℕ → ℕ → Result ℕ Fault → Type 0
 WordFrom text start (Ok end) =
-    (start < end) × (end ≤ length text) × (end ≤ start + 16) × (sentences_from start [] [] (drop start text) ≡ begun_by (word_in text start end) (sentences_from end [] [] (drop end text)))
+    (start < end) × (end ≤ length text) × (end ≤ start + 16) × (sentences_from start [] [] (drop start text) ≡ with_first_word (word_in text start end) (sentences_from end [] [] (drop end text)))
 WordFrom text start (Err f) = sentences_from start [] [] (drop start text) ≡ ended_by (fault f.cause f.byte) ∷ []

@@ -33,7 +33,7 @@ sentences_from at ws w (b ∷ bs) =
     cond (in_word b) (cond (nat_lt (length w) 16) (sentences_from (at + 1) ws (w ++ (b ∷ [])) bs) (record { words = ws; ending = fault LongWord at } ∷ []))
     (cond (is_blank b) (sentences_from (at + 1) (with_word ws at w) [] bs)
     (cond (b == 59) (record { words = with_word ws at w; ending = semicolon at } ∷ sentences_from (at + 1) [] [] bs)
-    -- a byte that is not allowed is refused, and a word that it stands behind is none
+    -- a byte that is not allowed is refused, and a word before it is none
     (record { words = ws; ending = fault BadByte at } ∷ [])))
 
 -- the sentences of a text

@@ -20,8 +20,8 @@ pub enum Cause {
     PeerUnknown,
     // a table is too short
     ShortTable,
-    // a word or a semicolon stands behind the end
-    BehindEnd,
+    // a word or a semicolon stands after the end
+    AfterEnd,
     // the chart breaks a rule
     Chart(Rule),
 }
@@ -45,7 +45,7 @@ impl From<Cause> for u8 {
             Cause::InstanceRepeated => 25,
             Cause::PeerUnknown => 26,
             Cause::ShortTable => 27,
-            Cause::BehindEnd => 28,
+            Cause::AfterEnd => 28,
             Cause::Chart(rule) => rule.into(),
         }
     }

@@ -25,7 +25,7 @@ fn skip_blanks(text: &[u8], at: usize) -> usize
     text.len()
 }
 
-// The place behind the word that starts here.
+// The place after the word that starts here.
 fn word_end(text: &[u8], start: usize) -> Result<usize, Fault>
     requires within { start < length text.now }
     requires begins { in_word (get_or text.now start 0) ≡ true }

@@ -1,17 +1,17 @@
 ghost use Rattle.std.specs.Prelude.{◌≡◌, IfOk};
 ghost use Rattle.words.specs.Reading.{left, placed, StandsIn};
 ghost use Rattle.words.specs.Sentences.{sentences};
-ghost use Rattle.texts.specs.Walks.{items_left, ItemRead, ItemStandsIn, StepRead, Begins};
+ghost use Rattle.texts.specs.Parsing.{items_left, ItemRead, ItemStandsIn, StepRead, Begins};
 
 use crate::items::{read_inside, read_outside};
 use crate::parts::{Item, Stage};
-use crate::walk::Walk;
+use crate::parser::Parser;
 use sentences::{close, expect_word, read_name};
 use words::{Fault, Reader, Word};
 
-impl<'t> Walk<'t> {
+impl<'t> Parser<'t> {
     // Reads the name of the text, in its first sentence.
-    pub fn begin(text: &'t [u8]) -> Result<(Word<'t>, Walk<'t>), Fault>
+    pub fn begin(text: &'t [u8]) -> Result<(Word<'t>, Parser<'t>), Fault>
         ensures begins { Begins (sentences text.now) result }
         ensures stands { IfOk result (λ r. StandsIn text.now (placed r.0) × (r.1.reader.text.now ≡ text.now)) }
     {
@@ -21,14 +21,14 @@ impl<'t> Walk<'t> {
         close(&mut reader)?;
         Ok((
             name,
-            Walk {
+            Parser {
                 reader,
                 stage: Stage::Outside,
             },
         ))
     }
 
-    // What stands next, and where the walk then stands.
+    // What stands next, and where the parser then stands.
     fn read(&mut self) -> Result<(Item<'t>, Stage), Fault>
         ensures reads { StepRead (items_left self.old) result (left self.new.reader) }
         ensures stands { IfOk result (λ r. ItemStandsIn self.old.reader.text.now r.0) }
@@ -46,7 +46,7 @@ impl<'t> Walk<'t> {
         }
     }
 
-    // The next item. Behind the end there is always the end, and behind a fault that fault.
+    // The next item. After the end there is always the end, and after a fault that fault.
     pub fn next(&mut self) -> Result<Item<'t>, Fault>
         ensures reads { ItemRead (items_left self.old) result (items_left self.new) }
         ensures stands { IfOk result (λ i. ItemStandsIn self.old.reader.text.now i) }
