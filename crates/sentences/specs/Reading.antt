@@ -1,5 +1,5 @@
 -- Reading a sentence word by word.
-use Rattle.std.specs.Prelude.{◌≡◌, List, [], ◌∷◌, Some, None, Ok, Err, Result}
+use Rattle.std.specs.Prelude.{◌≡◌, List, [], Some, None, Ok, Err, Result}
 use Rattle.words.specs.declared.parts.Word.{Word}
 use Rattle.words.specs.declared.faults.Fault.{Fault}
 use Rattle.words.specs.Sentences.{Placed, Sentence}

@@ -4,7 +4,7 @@ ghost use Rattle.sentences.specs.Wants.{reads, name};
 ghost use Rattle.sentences.specs.Events.{EventRead, EventStandsIn, event_words, event_in, kind_in, message_in, if_read, peer_by, placed_peer};
 ghost use Rattle.charts.specs.declared.kinds.Kind.TheVariants.{Action};
 
-use crate::names::{close, expect_word, read_name, read_peer, same};
+use crate::names::{close, expect_word, read_name, read_peer};
 use crate::parts::EventText;
 use charts::Kind;
 use words::{Cause, Fault, Reader, Word};
@@ -13,7 +13,7 @@ use words::{Cause, Fault, Reader, Word};
 fn named_peer<'t>(word: Word<'t>) -> Option<Word<'t>>
     ensures { placed_peer result ≡ peer_by (placed word.entry) }
 {
-    if same(word.bytes, b"env") {
+    if word.is(b"env") {
         return None;
     }
     Some(word)
@@ -59,14 +59,14 @@ fn read_action<'t>(reader: &mut Reader<'t>, keyword: Word<'t>) -> Result<EventTe
 }
 
 // The kind of an event by its first word.
-fn kind_in(word: &[u8]) -> Option<Kind>
-    ensures { result ≡ kind_in word.now }
+fn kind_in(word: &Word) -> Option<Kind>
+    ensures { result ≡ kind_in word.now.bytes.now }
 {
-    if same(word, b"in") {
+    if word.is(b"in") {
         Some(Kind::Input)
-    } else if same(word, b"out") {
+    } else if word.is(b"out") {
         Some(Kind::Output)
-    } else if same(word, b"action") {
+    } else if word.is(b"action") {
         Some(Kind::Action)
     } else {
         None
@@ -79,13 +79,10 @@ pub fn read_event<'t>(reader: &mut Reader<'t>, keyword: Word<'t>) -> Result<Even
     ensures stands { IfOk result (λ e. EventStandsIn reader.old.text.now (event_words e)) }
     ensures keeps { reader.new.text ≡ reader.old.text }
 {
-    match kind_in(keyword.bytes) {
+    match kind_in(&keyword) {
         Some(Kind::Input) => read_message(reader, keyword, Kind::Input, b"from"),
         Some(Kind::Output) => read_message(reader, keyword, Kind::Output, b"to"),
         Some(Kind::Action) => read_action(reader, keyword),
-        None => Err(Fault {
-            cause: Cause::WrongWord,
-            byte: keyword.start,
-        }),
+        None => Err(Fault::at(Cause::WrongWord, keyword.start)),
     }
 }

@@ -1,43 +1,32 @@
 ghost use Rattle.std.specs.Prelude.{◌≡◌, IfOk};
-ghost use Rattle.std.specs.Str.{bytes_eq};
 ghost use Rattle.words.specs.Reading.{left, placed, StandsIn};
 ghost use Rattle.sentences.specs.Wants.{structure_word, event_word, reserved, exactly, name, peer};
 ghost use Rattle.sentences.specs.Reading.{TakesWord, Takes, Closes};
 
 use words::{Cause, Fault, Piece, Reader, Word};
 
-// Whether two words have the same bytes.
-pub(crate) fn same(a: &[u8], b: &[u8]) -> bool
-    ensures { result ≡ bytes_eq a.now b.now }
-{
-    a == b
-}
-
 // Whether the word is one of the grammar's around instances.
-fn is_structure_word(word: &[u8]) -> bool
-    ensures { result ≡ structure_word word.now }
+fn is_structure_word(word: &Word) -> bool
+    ensures { result ≡ structure_word word.now.bytes.now }
 {
-    same(word, b"msc")
-        || same(word, b"endmsc")
-        || same(word, b"instance")
-        || same(word, b"endinstance")
+    word.is(b"msc") || word.is(b"endmsc") || word.is(b"instance") || word.is(b"endinstance")
 }
 
 // Whether the word is one of the grammar's in events.
-fn is_event_word(word: &[u8]) -> bool
-    ensures { result ≡ event_word word.now }
+fn is_event_word(word: &Word) -> bool
+    ensures { result ≡ event_word word.now.bytes.now }
 {
-    same(word, b"in")
-        || same(word, b"from")
-        || same(word, b"out")
-        || same(word, b"to")
-        || same(word, b"action")
-        || same(word, b"env")
+    word.is(b"in")
+        || word.is(b"from")
+        || word.is(b"out")
+        || word.is(b"to")
+        || word.is(b"action")
+        || word.is(b"env")
 }
 
 // Whether the word is one of the grammar, and so no name.
-fn is_reserved(word: &[u8]) -> bool
-    ensures { result ≡ reserved word.now }
+fn is_reserved(word: &Word) -> bool
+    ensures { result ≡ reserved word.now.bytes.now }
 {
     is_structure_word(word) || is_event_word(word)
 }
@@ -50,14 +39,8 @@ pub fn read_word<'t>(reader: &mut Reader<'t>) -> Result<Word<'t>, Fault>
 {
     match reader.next_piece()? {
         Piece::Word(word) => Ok(word),
-        Piece::Semicolon(byte) => Err(Fault {
-            cause: Cause::WrongWord,
-            byte,
-        }),
-        Piece::End(byte) => Err(Fault {
-            cause: Cause::TextEnds,
-            byte,
-        }),
+        Piece::Semicolon(byte) => Err(Fault::at(Cause::WrongWord, byte)),
+        Piece::End(byte) => Err(Fault::at(Cause::TextEnds, byte)),
     }
 }
 
@@ -68,11 +51,8 @@ pub fn expect_word<'t>(reader: &mut Reader<'t>, expected: &[u8]) -> Result<Word<
     ensures keeps { reader.new.text ≡ reader.old.text }
 {
     let word = read_word(reader)?;
-    if !same(word.bytes, expected) {
-        return Err(Fault {
-            cause: Cause::WrongWord,
-            byte: word.start,
-        });
+    if !word.is(expected) {
+        return Err(Fault::at(Cause::WrongWord, word.start));
     }
     Ok(word)
 }
@@ -84,11 +64,8 @@ pub fn read_name<'t>(reader: &mut Reader<'t>) -> Result<Word<'t>, Fault>
     ensures keeps { reader.new.text ≡ reader.old.text }
 {
     let word = read_word(reader)?;
-    if is_reserved(word.bytes) {
-        return Err(Fault {
-            cause: Cause::WrongWord,
-            byte: word.start,
-        });
+    if is_reserved(&word) {
+        return Err(Fault::at(Cause::WrongWord, word.start));
     }
     Ok(word)
 }
@@ -100,11 +77,8 @@ pub fn read_peer<'t>(reader: &mut Reader<'t>) -> Result<Word<'t>, Fault>
     ensures keeps { reader.new.text ≡ reader.old.text }
 {
     let word = read_word(reader)?;
-    if !same(word.bytes, b"env") && is_reserved(word.bytes) {
-        return Err(Fault {
-            cause: Cause::WrongWord,
-            byte: word.start,
-        });
+    if !word.is(b"env") && is_reserved(&word) {
+        return Err(Fault::at(Cause::WrongWord, word.start));
     }
     Ok(word)
 }
@@ -116,13 +90,7 @@ pub fn close<'t>(reader: &mut Reader<'t>) -> Result<(), Fault>
 {
     match reader.next_piece()? {
         Piece::Semicolon(_) => Ok(()),
-        Piece::Word(word) => Err(Fault {
-            cause: Cause::WrongWord,
-            byte: word.start,
-        }),
-        Piece::End(byte) => Err(Fault {
-            cause: Cause::TextEnds,
-            byte,
-        }),
+        Piece::Word(word) => Err(Fault::at(Cause::WrongWord, word.start)),
+        Piece::End(byte) => Err(Fault::at(Cause::TextEnds, byte)),
     }
 }

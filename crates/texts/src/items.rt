@@ -1,20 +1,12 @@
 ghost use Rattle.std.specs.Prelude.{◌≡◌, true, false, IfOk};
-ghost use Rattle.std.specs.Str.{bytes_eq};
 ghost use Rattle.words.specs.Reading.{left};
 ghost use Rattle.texts.specs.Items.{items_from};
 ghost use Rattle.texts.specs.Parsing.{ItemStandsIn, StepRead, EndRead};
 
-use crate::parts::{Item, Stage};
 use crate::parser::Parser;
+use crate::parts::{Item, Stage};
 use sentences::{close, read_event, read_name, read_word};
 use words::{Cause, Fault, Piece, Reader};
-
-// Whether two words have the same bytes.
-fn same(a: &[u8], b: &[u8]) -> bool
-    ensures { result ≡ bytes_eq a.now b.now }
-{
-    a == b
-}
 
 // That nothing stands after the end.
 fn read_end<'t>(reader: &mut Reader<'t>) -> Result<(), Fault>
@@ -23,14 +15,8 @@ fn read_end<'t>(reader: &mut Reader<'t>) -> Result<(), Fault>
 {
     match reader.next_piece()? {
         Piece::End(_) => Ok(()),
-        Piece::Word(word) => Err(Fault {
-            cause: Cause::AfterEnd,
-            byte: word.start,
-        }),
-        Piece::Semicolon(byte) => Err(Fault {
-            cause: Cause::AfterEnd,
-            byte,
-        }),
+        Piece::Word(word) => Err(Fault::at(Cause::AfterEnd, word.start)),
+        Piece::Semicolon(byte) => Err(Fault::at(Cause::AfterEnd, byte)),
     }
 }
 
@@ -41,19 +27,16 @@ pub(crate) fn read_outside<'t>(reader: &mut Reader<'t>) -> Result<(Item<'t>, Sta
     ensures keeps { reader.new.text ≡ reader.old.text }
 {
     let keyword = read_word(reader)?;
-    if same(keyword.bytes, b"instance") {
+    if keyword.is(b"instance") {
         let name = read_name(reader)?;
         return Ok((Item::Instance(name), Stage::Heading));
     }
-    if same(keyword.bytes, b"endmsc") {
+    if keyword.is(b"endmsc") {
         close(reader)?;
         read_end(reader)?;
         return Ok((Item::End, Stage::Done));
     }
-    Err(Fault {
-        cause: Cause::WrongWord,
-        byte: keyword.start,
-    })
+    Err(Fault::at(Cause::WrongWord, keyword.start))
 }
 
 // The next item of an instance, and where the parser then stands.
@@ -63,7 +46,7 @@ pub(crate) fn read_inside<'t>(reader: &mut Reader<'t>) -> Result<(Item<'t>, Stag
     ensures keeps { reader.new.text ≡ reader.old.text }
 {
     let keyword = read_word(reader)?;
-    if same(keyword.bytes, b"endinstance") {
+    if keyword.is(b"endinstance") {
         close(reader)?;
         return Ok((Item::InstanceEnd, Stage::Outside));
     }

@@ -2,11 +2,11 @@
 #![tactic(auto)]
 
 mod items;
+mod parser;
+mod parsing;
 mod parts;
 #[cfg(test)]
 mod tests;
-mod parser;
-mod parsing;
 
-pub use parts::{Item, Stage};
 pub use parser::Parser;
+pub use parts::{Item, Stage};

@@ -4,8 +4,8 @@ ghost use Rattle.words.specs.Sentences.{sentences};
 ghost use Rattle.texts.specs.Parsing.{items_left, ItemRead, ItemStandsIn, StepRead, Begins};
 
 use crate::items::{read_inside, read_outside};
-use crate::parts::{Item, Stage};
 use crate::parser::Parser;
+use crate::parts::{Item, Stage};
 use sentences::{close, expect_word, read_name};
 use words::{Fault, Reader, Word};
 

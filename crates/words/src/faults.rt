@@ -33,6 +33,15 @@ pub struct Fault {
     pub byte: usize,
 }
 
+impl Fault {
+    // A refusal for this cause, at this byte.
+    pub const fn at(cause: Cause, byte: usize) -> Fault
+        ensures { result ≡ record { cause = cause; byte = byte } }
+    {
+        Fault { cause, byte }
+    }
+}
+
 impl From<Cause> for u8 {
     ghost from_gives = { λ cause number. number ≡ number_of cause };
 

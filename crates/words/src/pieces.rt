@@ -35,14 +35,8 @@ fn word_end(text: &[u8], start: usize) -> Result<usize, Fault>
         let byte_at = start + length;
         match class_of(*byte) {
             Class::Word if length < LONGEST => {}
-            Class::Word => return Err(Fault {
-                cause: Cause::LongWord,
-                byte: byte_at,
-            }),
-            Class::Other => return Err(Fault {
-                cause: Cause::BadByte,
-                byte: byte_at,
-            }),
+            Class::Word => return Err(Fault::at(Cause::LongWord, byte_at)),
+            Class::Other => return Err(Fault::at(Cause::BadByte, byte_at)),
             Class::Blank => return Ok(byte_at),
             Class::Semicolon => return Ok(byte_at),
         }
@@ -83,10 +77,7 @@ impl<'t> Reader<'t> {
                 self.at = start + 1;
                 Ok(Piece::Semicolon(start))
             }
-            Class::Blank | Class::Other => Err(Fault {
-                cause: Cause::BadByte,
-                byte: start,
-            }),
+            Class::Blank | Class::Other => Err(Fault::at(Cause::BadByte, start)),
         }
     }
 }

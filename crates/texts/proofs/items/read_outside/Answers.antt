@@ -12,4 +12,4 @@ pub returns-in_err-name-clause-reads : goal.returns-in_err-name-clause-reads
 returns-in_err-name-clause-reads c =
     by_fault _ (left c.read_name.new.reader) c.in_err-name.field-0.0 c.from_residual-in_err-name.result (search rules)
     (no_heading (placed c.in_ok-keyword.keyword) (left c.args.reader.now) (left c.read_word.new.reader) c.in_err-name.field-0.0 c.in_ok-keyword.ensures.takes
-    (sym c.same.ensures ∙ c.if-same.true) c.in_err-name.ensures.takes)
+    (sym c.is.ensures ∙ c.if-is.true) c.in_err-name.ensures.takes)

@@ -1,6 +1,8 @@
-use Rattle.std.proofs.Common.{◌+◌, get_or, refl, sym, ap, ◌∙◌, arith}
+use Rattle.std.proofs.Common.{◌+◌, get_or, refl, sym, ap, ◌∙◌, subst, Err, arith}
 use Rattle.words.specs.declared.classes.Class.TheVariants.{Word, Blank, Semicolon, Other}
+use Rattle.words.specs.declared.faults.Fault.{Fault}
 use Rattle.words.specs.Classes.{class_of}
+use Rattle.words.specs.Reading.{WordFrom}
 use Rattle.words.proofs.Telling.{class_tells}
 use Rattle.words.proofs.Skipping.{byte_of_rest, within_text, rest_ends}
 use Rattle.words.proofs.Wording.{spelled_none, spelled_more, spelled_long, spelled_bad, spelled_blank, spelled_semicolon, spelled_end, not_first}
@@ -15,7 +17,7 @@ returns-in-Word-2 c =
     let start = c.args.start in
     let k = c.loop-length.length in
     let l = within_text text start k (let w = c.requires.within in omega arith) c.loop-length-test.true in
-    spelled_long text start k c.loop-length.invariant l (class_tells (get_or text (start + k) 0) Word (sym c.in-Word-2.is ∙ c.class_of.ensures ∙ ap class_of (byte_of_rest text start k))) (let f = c.if-length-lt-LONGEST.false in omega arith)
+    subst (λ (f : Fault). WordFrom text start (Err f)) (sym c.at.ensures) (spelled_long text start k c.loop-length.invariant l (class_tells (get_or text (start + k) 0) Word (sym c.in-Word-2.is ∙ c.class_of.ensures ∙ ap class_of (byte_of_rest text start k))) (let f = c.if-length-lt-LONGEST.false in omega arith))
 
 pub returns-in-Other : goal.returns-in-Other
 returns-in-Other c =
@@ -24,7 +26,7 @@ returns-in-Other c =
     let k = c.loop-length.length in
     let l = within_text text start k (let w = c.requires.within in omega arith) c.loop-length-test.true in
     let t = class_tells (get_or text (start + k) 0) Other (sym c.in-Other.is ∙ c.class_of.ensures ∙ ap class_of (byte_of_rest text start k)) in
-    spelled_bad text start k c.loop-length.invariant l t.0 t.1 t.2
+    subst (λ (f : Fault). WordFrom text start (Err f)) (sym c.at-in-Other.ensures) (spelled_bad text start k c.loop-length.invariant l t.0 t.1 t.2)
 
 pub returns-in-Blank : goal.returns-in-Blank
 returns-in-Blank c =
