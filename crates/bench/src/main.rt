@@ -59,7 +59,7 @@ fn run(rt: &HostRuntime) -> anyhow::Result<()> {
     let words = env::args(rt)?.collect::<Vec<String>>(rt.alloc())?;
     match words.as_slice() {
         [] | [_] => {
-            rt.println("usage: bench tables")?;
+            rt.println("usage: bench tables, or bench runs")?;
             Ok(())
         }
         [_, what] if what.as_str() == "runs" => measure_runs(rt),

@@ -9,7 +9,7 @@ use std::alloc::{AllocError, Global};
 use std::time::Instant;
 use tables::Table;
 
-// So many instances in pairs; in each pair the first outputs so many messages to the second, which inputs them in turn.
+// So many pairs of instances; in each pair the first outputs so many messages to the second, which inputs them in turn.
 fn pairs(heap: Global, couples: u8, messages: u16) -> Result<Flat, AllocError> {
     let mut lengths = Vec::new(heap);
     let mut events = Vec::new(heap);
@@ -32,11 +32,11 @@ fn pairs(heap: Global, couples: u8, messages: u16) -> Result<Flat, AllocError> {
     Flat::new(heap, &Table::new(lengths.as_slice(), events.as_slice()))
 }
 
-// Eight charts of 16 pairs with 16 messages each, one after the other: 4,096 events.
+// Nine charts of 16 pairs with 14 messages each, joined one after the other by eight joins: 4,032 events.
 fn pile(heap: Global) -> Result<Flat, AllocError> {
-    let mut chart = pairs(heap, 16, 16)?;
-    for _ in 0..7 {
-        let next = pairs(heap, 16, 16)?;
+    let mut chart = pairs(heap, 16, 14)?;
+    for _ in 0..8 {
+        let next = pairs(heap, 16, 14)?;
         chart = Flat::new(heap, &After::new(chart, next))?;
     }
     Ok(chart)
@@ -83,5 +83,5 @@ pub(crate) fn measure_runs(rt: &HostRuntime) -> anyhow::Result<()> {
         "16 pairs with 256 events each",
         &pairs(rt.alloc(), 16, 128)?,
     )?;
-    measure_chart(rt, "pile of 8 charts", &pile(rt.alloc())?)
+    measure_chart(rt, "pile of 8 joins", &pile(rt.alloc())?)
 }
