@@ -1,0 +1,3 @@
+mod Sorted
+mod Searching
+mod Noting

@@ -1,0 +1,83 @@
+ghost use Rattle.std.specs.Prelude.{◌≡◌, None, List, ℕ, map, true, MatchResult};
+ghost use Rattle.names.specs.Numbers.{number_of, count, Notes};
+ghost use Rattle.names.specs.Entries.{named, in_order, StandsAt, GoesAt};
+
+use crate::parts::{Entry, Refusal};
+use arrayvec::ArrayVec;
+use std::marker::Model;
+
+// There is room for as many names.
+const MOST: usize = 4096;
+
+// Names, each with the number that it was noted with.
+#[derive(Drop)]
+pub struct Names<'t> {
+    entries: ArrayVec<Entry<'t>, MOST>,
+}
+
+// Names are seen as the number that each has; that they are kept in order, for the search, is not seen.
+impl<'t> Model for Names<'t> {
+    ghost use Rattle.std.specs.Prelude.{◌≡◌, true};
+    ghost use Rattle.names.specs.Numbers.{Numbers, numbers_code};
+
+    ghost Value = { Numbers };
+
+    ghost coded = { numbers_code };
+
+    ghost use Rattle.names.specs.Entries.{numbers_in, in_order};
+
+    ghost view = { λ names. numbers_in names.entries.items };
+
+    ghost invariant = { λ names. in_order names.entries.items ≡ true };
+}
+
+// Where the name stands, or where it has to go.
+fn place_of(entries: &[Entry], name: &[u8]) -> Result<usize, usize>
+    requires { in_order entries.now ≡ true }
+    ensures { MatchResult result (λ i. StandsAt (map named entries.now) name.now i) (λ i. GoesAt (map named entries.now) name.now i) }
+{
+    entries.binary_search_by(|entry| entry.name.cmp(name))
+}
+
+impl<'t> Names<'t> {
+    // No name.
+    pub fn new() -> Names<'t>
+        ensures none { (name : List ℕ) → number_of result name ≡ None }
+        ensures count { count result ≡ 0 }
+    {
+        Names {
+            entries: ArrayVec::new(),
+        }
+    }
+
+    // How many names are noted.
+    pub fn len(&self) -> usize
+        ensures { result ≡ count self.now }
+    {
+        self.entries.len()
+    }
+
+    // The number that the name was noted with, none where it was not.
+    pub fn find(&self, name: &[u8]) -> Option<u16>
+        ensures { result ≡ number_of self.now name.now }
+    {
+        match place_of(self.entries.as_slice(), name) {
+            Ok(at) => Some(self.entries[at].number),
+            Err(_) => None,
+        }
+    }
+
+    // Notes a new name.
+    pub fn note(&mut self, name: &'t [u8], number: u16) -> Result<(), Refusal>
+        ensures { Notes self.old name.now number result self.new }
+    {
+        let Err(at) = place_of(self.entries.as_slice(), name) else {
+            return Err(Refusal::Repeated);
+        };
+        if self.entries.is_full() {
+            return Err(Refusal::Full);
+        }
+        self.entries.insert(at, Entry { name, number });
+        Ok(())
+    }
+}
