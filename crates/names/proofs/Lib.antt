@@ -1,3 +1,4 @@
 mod Sorted
 mod Searching
 mod Noting
+pub mod Lookups
