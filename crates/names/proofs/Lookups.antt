@@ -1,5 +1,5 @@
 -- The numbers of names after one more is noted.
-use Rattle.std.proofs.Common.{◌≡◌, ℕ, ◌+◌, Bool, true, false, cond, List, Some, None, is_some, refl, sym, ap, ◌∙◌}
+use Rattle.std.proofs.Common.{◌≡◌, ℕ, ◌+◌, Bool, true, false, cond, List, Some, None, is_some, refl, ap, ◌∙◌}
 use Rattle.std.specs.Str.{bytes_eq}
 use Rattle.std.specs.FinMap.{get-insert, len-insert}
 use Rattle.std.specs.FinMap as finite
@@ -10,7 +10,6 @@ use Rattle.std.proofs.lemmas.Cmp.{nat_list_cmp_total}
 use Rattle.std.proofs.lemmas.Map.Text.{is_eq-slice_cmp}
 use Rattle.std.proofs.lemmas.Slice.Eq.{bytes_eq-Decides}
 use Rattle.names.specs.Numbers.{Numbers, number_of, count, Adds}
-use Rattle.names.specs.Entries.{by_bytes}
 
 -- an insert adds a name that is not there
 pub adds : (old : Numbers) (name : List ℕ) (number : ℕ) → number_of old name ≡ None → Adds old name number (finite.insert old name number)

@@ -1,14 +1,14 @@
 -- What is seen of entries in order.
-use Rattle.std.proofs.Common.{◌≡◌, ℕ, zero, suc, ◌+◌, ◌<◌, Bool, true, false, T, List, [], ◌∷◌, map, length, get_or, Some, None, refl, sym, ap, ◌∙◌, subst, arith}
+use Rattle.std.proofs.Common.{◌≡◌, ℕ, zero, suc, Bool, true, false, T, List, [], ◌∷◌, map, length, get_or, Some, None, refl, sym, ap, ◌∙◌, subst, arith}
 use Rattle.std.specs.List.{insert}
-use Rattle.std.specs.FinMap.{FinMap, from_sorted, entries, get-from_sorted, len-entries, entries-from_sorted, find, is_sorted, put, same_entries_map, entries-insert}
+use Rattle.std.specs.FinMap.{get-from_sorted, len-entries, entries-from_sorted, find, is_sorted, put, same_entries_map, entries-insert}
 use Rattle.std.specs.FinMap as finite
 use Rattle.std.specs.FinMap.Entries.{is_sorted-put}
 use Rattle.std.proofs.lemmas.Cmp.{nat_list_cmp_total}
 use Rattle.std.proofs.lemmas.List.{get_or-map}
 use Rattle.names.specs.declared.parts.Entry.{Entry}
 use Rattle.names.specs.Numbers.{Numbers, number_of, count, Adds}
-use Rattle.names.specs.Entries.{by_bytes, named, in_order, numbers_in, name_at, StandsAt, GoesAt}
+use Rattle.names.specs.Entries.{by_bytes, named, in_order, numbers_in, StandsAt, GoesAt}
 use Rattle.names.proofs.Sorted.{insert_put, find_none, find_some}
 use Rattle.names.proofs.Searching.{blank, as_many}
 use Rattle.names.proofs.Lookups.{adds}

@@ -12,7 +12,7 @@ use Rattle.std.proofs.lemmas.List.{get_or-map, length-map}
 use Rattle.std.proofs.lemmas.List.Sorted.{IsNonDecreasingBy-from_default}
 use Rattle.names.specs.declared.parts.Entry.{Entry}
 use Rattle.names.specs.Entries.{by_bytes, named, in_order, name_at, StandsAt, GoesAt}
-use Rattle.names.proofs.Sorted.{rises, turned}
+use Rattle.names.proofs.Sorted.{rises}
 
 -- an entry without a name
 abbrev pub blank : Entry

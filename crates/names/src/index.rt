@@ -1,4 +1,4 @@
-ghost use Rattle.std.specs.Prelude.{◌≡◌, None, List, ℕ, map, true, MatchResult};
+ghost use Rattle.std.specs.Prelude.{◌≡◌, ◌≤◌, None, List, ℕ, map, true, MatchResult};
 ghost use Rattle.names.specs.Numbers.{number_of, count, Notes};
 ghost use Rattle.names.specs.Entries.{named, in_order, StandsAt, GoesAt};
 
@@ -52,7 +52,8 @@ impl<'t> Names<'t> {
 
     // How many names are noted.
     pub fn len(&self) -> usize
-        ensures { result ≡ count self.now }
+        ensures value { result ≡ count self.now }
+        ensures fits { result ≤ 4096 }
     {
         self.entries.len()
     }
