@@ -1,4 +1,4 @@
 mod Sorted
 mod Searching
-mod Noting
+pub mod Noting
 pub mod Lookups

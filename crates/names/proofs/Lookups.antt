@@ -1,5 +1,5 @@
 -- The numbers of names after one more is noted.
-use Rattle.std.proofs.Common.{◌≡◌, ℕ, ◌+◌, Bool, true, false, cond, List, Some, None, is_some, refl, ap, ◌∙◌}
+use Rattle.std.proofs.Common.{◌≡◌, ℕ, ◌+◌, ◌<◌, Bool, true, false, cond, List, Some, None, is_some, refl, ap, ◌∙◌}
 use Rattle.std.specs.Str.{bytes_eq}
 use Rattle.std.specs.FinMap.{get-insert, len-insert}
 use Rattle.std.specs.FinMap as finite
@@ -12,9 +12,11 @@ use Rattle.std.proofs.lemmas.Slice.Eq.{bytes_eq-Decides}
 use Rattle.names.specs.Numbers.{Numbers, number_of, count, Adds}
 
 -- an insert adds a name that is not there
-pub adds : (old : Numbers) (name : List ℕ) (number : ℕ) → number_of old name ≡ None → Adds old name number (finite.insert old name number)
-adds old name number none =
+pub adds : (old : Numbers) (name : List ℕ) (number : ℕ) → number_of old name ≡ None → count old < 4096 → Adds old name number (finite.insert old name number)
+adds old name number none some =
     record {
+      fresh = none;
+      room = some;
       this = get-insert nat_list_cmp_total old name number name ∙ ap (λ o. cond (is_eq o) (Some number) (number_of old name)) (tied_itself nat_list_cmp_total name);
       others = λ other ne.
           get-insert nat_list_cmp_total old name number other

@@ -1,5 +1,5 @@
 -- What a binary search among entries in order answers.
-use Rattle.std.proofs.Common.{◌≡◌, ℕ, ◌<◌, ◌≤◌, true, List, [], map, length, get_or, Ok, Err, Result, MatchResult, refl, sym, ap, ◌∙◌, subst, arith, inl, inr}
+use Rattle.std.proofs.Common.{◌≡◌, ℕ, ◌<◌, ◌≤◌, true, List, [], map, length, get_or, Ok, Err, Result, refl, sym, ap, ◌∙◌, subst, arith, inl, inr}
 use Rattle.std.specs.declared.cmp.Ordering.{Ordering}
 use Rattle.std.specs.declared.cmp.Ordering.TheVariants.{Less, Equal, Greater}
 use Rattle.std.specs.Ordering.{ordering_index, nat_cmp}
@@ -11,7 +11,7 @@ use Rattle.std.proofs.lemmas.Bool.{cases_lt}
 use Rattle.std.proofs.lemmas.List.{get_or-map, length-map}
 use Rattle.std.proofs.lemmas.List.Sorted.{IsNonDecreasingBy-from_default}
 use Rattle.names.specs.declared.parts.Entry.{Entry}
-use Rattle.names.specs.Entries.{by_bytes, named, in_order, name_at, StandsAt, GoesAt}
+use Rattle.names.specs.Entries.{by_bytes, named, in_order, name_at, IsPlaceOf}
 use Rattle.names.proofs.Sorted.{rises}
 
 -- an entry without a name
@@ -52,7 +52,7 @@ go_on es name h = IsNonDecreasingBy-from_default (λ e. ordering_index (by_bytes
 
 -- a binary search answers where the name stands, or where it has to go
 pub found : (es : List Entry) (name : List ℕ) (r : Result ℕ ℕ) → in_order es ≡ true → IsSearchInRange r (length es) →
-    IsBinarySearchResult (λ e. by_bytes e.name.now name) es r → MatchResult r (StandsAt (map named es) name) (GoesAt (map named es) name)
+    IsBinarySearchResult (λ e. by_bytes e.name.now name) es r → IsPlaceOf es name r
 found es name (Ok i) h within is =
     let n = as_many es in
     record { within = omega arith; is = name_there es i within ∙ slice_cmp-IsAntisymmetric nat_cmp-IsAntisymmetric _ name (is blank) }

@@ -1,5 +1,5 @@
 -- How names are kept: in the order of their bytes.
-use Rattle.std.specs.Prelude.{◌≡◌, ℕ, ◌<◌, ◌≤◌, Bool, List, [], map, length, slice_index_or}
+use Rattle.std.specs.Prelude.{◌≡◌, ℕ, ◌<◌, ◌≤◌, Bool, List, [], map, length, slice_index_or, Result, MatchResult}
 use Rattle.std.specs.declared.cmp.Ordering.{Ordering}
 use Rattle.std.specs.declared.cmp.Ordering.TheVariants.{Less}
 use Rattle.std.specs.Ordering.{nat_cmp}
@@ -38,3 +38,7 @@ pub record GoesAt (es : List (List ℕ × ℕ)) (name : List ℕ) (i : ℕ) : Ty
   pub within : i ≤ length es
   pub before : (j : ℕ) → j < i → by_bytes (name_at es j) name ≡ Less
   pub behind : (j : ℕ) → i ≤ j → j < length es → by_bytes name (name_at es j) ≡ Less
+
+-- a search answers where the name stands, or else where it has to go
+abbrev pub IsPlaceOf : List Entry → List ℕ → Result ℕ ℕ → Type 0
+IsPlaceOf es name r = MatchResult r (StandsAt (map named es) name) (GoesAt (map named es) name)

@@ -22,14 +22,16 @@ number_of names name = get names name
 abbrev pub count : Numbers → ℕ
 count names = len names
 
--- new has a name more, with its number, and else what old has
+-- the name is not there and there is room for it, and new has it with its number, and else what old has
 pub record Adds (old : Numbers) (name : List ℕ) (number : ℕ) (new : Numbers) : Type 0 where
+  pub fresh : number_of old name ≡ None
+  pub room : count old < 4096
   pub this : number_of new name ≡ Some number
   pub others : (other : List ℕ) → other ≢ name → number_of new other ≡ number_of old other
   pub more : count new ≡ count old + 1
 
--- a new name is noted where there is room for it; else it is told why not, and nothing changes
+-- to note a name adds it, or else tells why not, and changes nothing
 abbrev pub Notes : Numbers → List ℕ → ℕ → Result (Unit {0}) Refusal → Numbers → Type 0
-Notes old name number (Ok _) new = (number_of old name ≡ None) × (count old < 4096) × Adds old name number new
+Notes old name number (Ok _) new = Adds old name number new
 Notes old name number (Err Repeated) new = IsSome (number_of old name) × (new ≡ old)
 Notes old name number (Err Full) new = (number_of old name ≡ None) × (count old ≡ 4096) × (new ≡ old)

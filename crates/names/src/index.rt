@@ -1,6 +1,6 @@
-ghost use Rattle.std.specs.Prelude.{◌≡◌, ◌≤◌, None, List, ℕ, map, true, MatchResult};
+ghost use Rattle.std.specs.Prelude.{◌≡◌, ◌≤◌, None, List, ℕ, true};
 ghost use Rattle.names.specs.Numbers.{number_of, count, Notes};
-ghost use Rattle.names.specs.Entries.{named, in_order, StandsAt, GoesAt};
+ghost use Rattle.names.specs.Entries.{in_order, IsPlaceOf};
 
 use crate::parts::{Entry, Refusal};
 use arrayvec::ArrayVec;
@@ -34,13 +34,14 @@ impl<'t> Model for Names<'t> {
 // Where the name stands, or where it has to go.
 fn place_of(entries: &[Entry], name: &[u8]) -> Result<usize, usize>
     requires { in_order entries.now ≡ true }
-    ensures { MatchResult result (λ i. StandsAt (map named entries.now) name.now i) (λ i. GoesAt (map named entries.now) name.now i) }
+    ensures { IsPlaceOf entries.now name.now result }
 {
     entries.binary_search_by(|entry| entry.name.cmp(name))
 }
 
 impl<'t> Names<'t> {
     // No name.
+    #[tactic(auto, using(crate::proofs::Noting::none_of_none, crate::proofs::Noting::count_of_none))]
     pub fn new() -> Names<'t>
         ensures none { (name : List ℕ) → number_of result name ≡ None }
         ensures count { count result ≡ 0 }
@@ -51,6 +52,7 @@ impl<'t> Names<'t> {
     }
 
     // How many names are noted.
+    #[tactic(auto, using(crate::proofs::Noting::as_many_names))]
     pub fn len(&self) -> usize
         ensures value { result ≡ count self.now }
         ensures fits { result ≤ 4096 }
@@ -59,16 +61,19 @@ impl<'t> Names<'t> {
     }
 
     // The number that the name was noted with, none where it was not.
+    #[tactic(auto, using(crate::proofs::Noting::number_there, crate::proofs::Noting::number_none))]
     pub fn find(&self, name: &[u8]) -> Option<u16>
         ensures { result ≡ number_of self.now name.now }
     {
-        match place_of(self.entries.as_slice(), name) {
-            Ok(at) => Some(self.entries[at].number),
+        let entries = self.entries.as_slice();
+        match place_of(entries, name) {
+            Ok(at) => Some(entries[at].number),
             Err(_) => None,
         }
     }
 
     // Notes a new name.
+    #[tactic(auto, using(crate::proofs::Noting::repeated, crate::proofs::Noting::not_there, crate::proofs::Noting::no_room, crate::proofs::Noting::still_in_order))]
     pub fn note(&mut self, name: &'t [u8], number: u16) -> Result<(), Refusal>
         ensures { Notes self.old name.now number result self.new }
     {
