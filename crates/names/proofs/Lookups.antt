@@ -5,7 +5,7 @@ use Rattle.std.specs.FinMap.{get-insert, len-insert}
 use Rattle.std.specs.FinMap as finite
 use Rattle.std.specs.Cmp.{tied_itself}
 use Rattle.std.specs.Ordering.{is_eq}
-use Rattle.std.proofs.lemmas.Bool.{cases_Bool, cond-true, cond-false, false_from_ne_true}
+use Rattle.std.proofs.lemmas.Bool.{both_ways, cond-false, false_from_ne_true}
 use Rattle.std.proofs.lemmas.Cmp.{nat_list_cmp_total}
 use Rattle.std.proofs.lemmas.Map.Text.{is_eq-slice_cmp}
 use Rattle.std.proofs.lemmas.Slice.Eq.{bytes_eq-Decides}
@@ -31,4 +31,4 @@ number_after old name number new a q = go (bytes_eq q name) refl
   where
     go : (b : Bool) → bytes_eq q name ≡ b → number_of new q ≡ cond b (Some number) (number_of old q)
     go true is = ap (number_of new) ((bytes_eq-Decides q name).0 is) ∙ a.this
-    go false is = a.others q (λ same. Rattle.std.proofs.lemmas.Bool.both_ways _ is ((bytes_eq-Decides q name).1 same))
+    go false is = a.others q (λ same. both_ways _ is ((bytes_eq-Decides q name).1 same))

@@ -5,6 +5,7 @@ use Rattle.std.specs.FinMap.{get-from_sorted, len-entries, entries-from_sorted, 
 use Rattle.std.specs.FinMap as finite
 use Rattle.std.specs.FinMap.Entries.{is_sorted-put}
 use Rattle.std.proofs.lemmas.Bool.Decides.{nat_tests}
+use Rattle.std.proofs.lemmas.Float.{T_from_true}
 use Rattle.std.proofs.lemmas.Cmp.{nat_list_cmp_total}
 use Rattle.std.proofs.lemmas.List.{get_or-map}
 use Rattle.names.specs.declared.parts.Entry.{Entry}
@@ -13,9 +14,6 @@ use Rattle.names.specs.Entries.{by_bytes, named, in_order, numbers_in, StandsAt,
 use Rattle.names.proofs.Sorted.{insert_put, find_none, find_some}
 use Rattle.names.proofs.Searching.{blank, as_many}
 use Rattle.names.proofs.Lookups.{adds}
-
-holds : (b : Bool) → b ≡ true → T b
-holds b e = subst T (sym e) tt
 
 is_true : (b : Bool) → T b → b ≡ true
 is_true true t = refl
@@ -36,7 +34,7 @@ count_of_none es e = ap (λ l. count (numbers_in l)) e ∙ len-entries (numbers_
 -- the names that are seen of entries in order
 module _ (es : List Entry) (h : in_order es ≡ true) (names : Numbers) (seen : numbers_in es ≡ names) where
   counted : count names ≡ length es
-  counted = ap count (sym seen) ∙ len-entries (numbers_in es) ∙ ap length (entries-from_sorted by_bytes (map named es) (holds _ h)) ∙ as_many es
+  counted = ap count (sym seen) ∙ len-entries (numbers_in es) ∙ ap length (entries-from_sorted by_bytes (map named es) (T_from_true _ h)) ∙ as_many es
 
   -- are as many as the entries
   pub as_many_names : (n : ℕ) → n ≡ length es → n ≡ count names
@@ -46,7 +44,7 @@ module _ (es : List Entry) (h : in_order es ≡ true) (names : Numbers) (seen : 
   no_room all = grind (arith, nat_tests, counted)
 
   looked_up : (name : List ℕ) → number_of names name ≡ find by_bytes name (map named es)
-  looked_up name = ap (λ (n : Numbers). number_of n name) (sym seen) ∙ get-from_sorted by_bytes (map named es) name (holds _ h)
+  looked_up name = ap (λ (n : Numbers). number_of n name) (sym seen) ∙ get-from_sorted by_bytes (map named es) name (T_from_true _ h)
 
   module _ (name : List ℕ) (i : ℕ) where
     -- have the number that stands where the name stands
@@ -59,7 +57,7 @@ module _ (es : List Entry) (h : in_order es ≡ true) (names : Numbers) (seen : 
     none : GoesAt (map named es) name i → number_of names name ≡ None
     none g = looked_up name ∙ find_none (map named es) name i g
 
-  -- `at` are the entries as code lends them, r is what a search for the name answered
+  -- `at` are the entries as they are lent, r is what a search for the name answered
   module _ (at : List Entry) (name : List ℕ) (r : Result ℕ ℕ) (i : ℕ) (place : IsPlaceOf at name r) where
     stands : r ≡ Ok i → at ≡ es → StandsAt (map named es) name i
     stands is same = subst (λ l. StandsAt (map named l) name i) same (subst (IsPlaceOf at name) is place)
@@ -86,12 +84,12 @@ module _ (es : List Entry) (h : in_order es ≡ true) (names : Numbers) (seen : 
           ap (map named) is ∙ map_insert es i e ∙ insert_put (map named es) e.name.now e.number i (subst (λ n. GoesAt (map named es) n i) its (goes err same))
 
       pub still_in_order : in_order new ≡ true
-      still_in_order = ap (is_sorted by_bytes) is_put ∙ is_true _ (is_sorted-put by_bytes nat_list_cmp_total e.name.now e.number (map named es) (holds _ h))
+      still_in_order = ap (is_sorted by_bytes) is_put ∙ is_true _ (is_sorted-put by_bytes nat_list_cmp_total e.name.now e.number (map named es) (T_from_true _ h))
 
       is_inserted : numbers_in new ≡ finite.insert names e.name.now e.number
       is_inserted =
           same_entries_map _ _
-          (entries-from_sorted by_bytes _ (holds _ still_in_order) ∙ is_put ∙ ap (put by_bytes e.name.now e.number) (sym (entries-from_sorted by_bytes _ (holds _ h)))
+          (entries-from_sorted by_bytes _ (T_from_true _ still_in_order) ∙ is_put ∙ ap (put by_bytes e.name.now e.number) (sym (entries-from_sorted by_bytes _ (T_from_true _ h)))
           ∙ sym (entries-insert nat_list_cmp_total (numbers_in es) e.name.now e.number))
           ∙ ap (λ (n : Numbers). finite.insert n e.name.now e.number) seen
 

@@ -2,7 +2,7 @@
 use Rattle.std.proofs.Common.{◌≡◌, ℕ, ◌<◌, ◌≤◌, true, List, [], map, length, get_or, Ok, Err, Result, refl, sym, ap, ◌∙◌, subst, arith, inl, inr}
 use Rattle.std.specs.declared.cmp.Ordering.{Ordering}
 use Rattle.std.specs.declared.cmp.Ordering.TheVariants.{Less, Equal, Greater}
-use Rattle.std.specs.Ordering.{ordering_index, nat_cmp}
+use Rattle.std.specs.Ordering.{ordering_index}
 use Rattle.std.specs.Cmp.{alike_right}
 use Rattle.std.specs.FinMap.{slice_cmp-IsAntisymmetric, nat_cmp-IsAntisymmetric}
 use Rattle.std.specs.List.Sorted.{IsSearchInRange, IsBinarySearchResult, IsNonDecreasingBy}
@@ -12,7 +12,7 @@ use Rattle.std.proofs.lemmas.List.{get_or-map, length-map}
 use Rattle.std.proofs.lemmas.List.Sorted.{IsNonDecreasingBy-from_default}
 use Rattle.names.specs.declared.parts.Entry.{Entry}
 use Rattle.names.specs.Entries.{by_bytes, named, in_order, name_at, IsPlaceOf}
-use Rattle.names.proofs.Sorted.{rises}
+use Rattle.names.proofs.Sorted.{rises, turned}
 
 -- an entry without a name
 abbrev pub blank : Entry
@@ -62,8 +62,5 @@ found es name (Err i) h within parted =
     record {
       within = omega arith;
       before = λ j lt. subst (λ x. by_bytes x name ≡ Less) (sym (name_there es j (omega arith))) (p.0 j blank (omega arith) lt);
-      behind = λ j le lt. subst (λ x. by_bytes name x ≡ Less) (sym (name_there es j (omega arith))) (back _ (p.1 j blank le (omega arith)));
+      behind = λ j le lt. subst (λ x. by_bytes name x ≡ Less) (sym (name_there es j (omega arith))) (turned _ name (p.1 j blank le (omega arith)));
     }
-  where
-    back : (x : List ℕ) → by_bytes x name ≡ Greater → by_bytes name x ≡ Less
-    back x e = nat_list_cmp_total.antisymm name x ∙ ap Rattle.std.specs.Ordering.ordering_reverse e

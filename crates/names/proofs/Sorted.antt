@@ -1,9 +1,10 @@
 -- Lists of names that rise.
-use Rattle.std.proofs.Common.{◌≡◌, ℕ, zero, suc, ◌<◌, Bool, true, false, cond, ◌&&◌, List, [], ◌∷◌, length, get_or, Some, None, refl, sym, ap, ◌∙◌, subst, arith}
+use Rattle.std.proofs.Common.{◌≡◌, ℕ, zero, suc, ◌<◌, true, false, cond, List, [], ◌∷◌, length, get_or, Some, None, refl, sym, ap, ◌∙◌, subst, arith}
 use Rattle.std.specs.declared.cmp.Ordering.{Ordering}
 use Rattle.std.specs.declared.cmp.Ordering.TheVariants.{Less, Equal, Greater}
 use Rattle.std.specs.Ordering.{is_lt, is_eq, ordering_reverse}
-use Rattle.std.specs.Cmp.{tied_itself}
+use Rattle.std.specs.Cmp.{first_so, second_so, tied_itself}
+use Rattle.std.proofs.lemmas.Bool.{both_ways}
 use Rattle.std.proofs.lemmas.Cmp.{nat_list_cmp_total}
 use Rattle.std.specs.List.{insert}
 use Rattle.std.specs.FinMap.{find, put, is_sorted}
@@ -13,29 +14,27 @@ use Rattle.names.specs.Entries.{by_bytes, name_at, StandsAt, GoesAt}
 abbrev Named : Type 0
 Named = List (List ℕ × ℕ)
 
-both_true : (a b : Bool) → (a && b) ≡ true → (a ≡ true) × (b ≡ true)
-both_true true b e = (refl, e)
-both_true false b e = (e, absurd (Rattle.std.proofs.lemmas.Bool.both_ways false refl e))
-
 is_less : (o : Ordering) → is_lt o ≡ true → o ≡ Less
 is_less Less e = refl
-is_less Equal e = absurd (Rattle.std.proofs.lemmas.Bool.both_ways false refl e)
-is_less Greater e = absurd (Rattle.std.proofs.lemmas.Bool.both_ways false refl e)
+is_less Equal e = absurd (both_ways false refl e)
+is_less Greater e = absurd (both_ways false refl e)
 
--- a name that comes before another has it behind
-pub turned : (x y : List ℕ) → by_bytes x y ≡ Less → by_bytes y x ≡ Greater
+-- two names the other way round
+pub turned : (x y : List ℕ) {o : Ordering} → by_bytes x y ≡ o → by_bytes y x ≡ ordering_reverse o
 turned x y e = nat_list_cmp_total.antisymm y x ∙ ap ordering_reverse e
 
+-- a name that comes before each
 below_each : (x : List ℕ) (es : Named) → below_all by_bytes x es ≡ true → (j : ℕ) → j < length es → by_bytes x (name_at es j) ≡ Less
 below_each x [] h j l = absurd (omega arith)
-below_each x (e ∷ es) h zero l = is_less _ (both_true _ _ h).0
-below_each x (e ∷ es) h (suc j) l = below_each x es (both_true (is_lt (by_bytes x e.0)) _ h).1 j (omega arith)
+below_each x (e ∷ es) h zero l = is_less _ (first_so (is_lt (by_bytes x e.0)) _ h)
+below_each x (e ∷ es) h (suc j) l = below_each x es (second_so (is_lt (by_bytes x e.0)) _ h) j (omega arith)
 
+-- of two places in order, the name at the first comes before the name at the second
 pub rises : (es : Named) → is_sorted by_bytes es ≡ true → (i j : ℕ) → i < j → j < length es → by_bytes (name_at es i) (name_at es j) ≡ Less
 rises [] h i j lt l = absurd (omega arith)
 rises (e ∷ es) h i zero lt l = absurd (omega arith)
-rises (e ∷ es) h zero (suc j) lt l = below_each e.0 es (both_true _ _ h).0 j (omega arith)
-rises (e ∷ es) h (suc i) (suc j) lt l = rises es (both_true (below_all by_bytes e.0 es) _ h).1 i j (omega arith) (omega arith)
+rises (e ∷ es) h zero (suc j) lt l = below_each e.0 es (first_so (below_all by_bytes e.0 es) _ h) j (omega arith)
+rises (e ∷ es) h (suc i) (suc j) lt l = rises es (second_so (below_all by_bytes e.0 es) _ h) i j (omega arith) (omega arith)
 
 -- behind the first entry, a name has to go one place lower
 goes_on : (e : List ℕ × ℕ) (es : Named) (name : List ℕ) (i : ℕ) → GoesAt (e ∷ es) name (suc i) → GoesAt es name i
@@ -72,4 +71,4 @@ find_some (e ∷ es) name (suc i) h s =
     let w = s.within in
     let first : by_bytes e.0 name ≡ Less = subst (λ x. by_bytes e.0 x ≡ Less) s.is (rises (e ∷ es) h 0 (suc i) (omega arith) w) in
     ap (λ o. cond (is_eq o) (Some e.1) (find by_bytes name es)) (turned e.0 name first)
-    ∙ find_some es name i (both_true (below_all by_bytes e.0 es) _ h).1 (record { within = omega arith; is = s.is })
+    ∙ find_some es name i (second_so (below_all by_bytes e.0 es) _ h) (record { within = omega arith; is = s.is })

@@ -6,7 +6,7 @@ use crate::parts::{Entry, Refusal};
 use arrayvec::ArrayVec;
 use std::marker::Model;
 
-// There is room for as many names.
+// No more names are noted.
 const MOST: usize = 4096;
 
 // Names, each with the number that it was noted with.
@@ -15,7 +15,7 @@ pub struct Names<'t> {
     entries: ArrayVec<Entry<'t>, MOST>,
 }
 
-// Names are seen as the number that each has; that they are kept in order, for the search, is not seen.
+// Names are seen as the number that each has. The order that they are kept in, for the search, is not seen.
 impl<'t> Model for Names<'t> {
     ghost use Rattle.std.specs.Prelude.{◌≡◌, true};
     ghost use Rattle.names.specs.Numbers.{Numbers, numbers_code};
@@ -72,7 +72,7 @@ impl<'t> Names<'t> {
         }
     }
 
-    // Notes a new name.
+    // Notes a new name with its number. A name that was noted before is refused, and any other where 4,096 are noted; then nothing changes.
     #[tactic(auto, using(crate::proofs::Noting::repeated, crate::proofs::Noting::not_there, crate::proofs::Noting::no_room, crate::proofs::Noting::still_in_order))]
     pub fn note(&mut self, name: &'t [u8], number: u16) -> Result<(), Refusal>
         ensures { Notes self.old name.now number result self.new }
