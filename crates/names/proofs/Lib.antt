@@ -1,0 +1,4 @@
+mod Sorted
+mod Searching
+pub mod Noting
+pub mod Lookups
