@@ -62,5 +62,5 @@ found es name (Err i) h within parted =
     record {
       within = omega arith;
       before = λ j lt. subst (λ x. by_bytes x name ≡ Less) (sym (name_there es j (omega arith))) (p.0 j blank (omega arith) lt);
-      behind = λ j le lt. subst (λ x. by_bytes name x ≡ Less) (sym (name_there es j (omega arith))) (turned _ name (p.1 j blank le (omega arith)));
+      after = λ j le lt. subst (λ x. by_bytes name x ≡ Less) (sym (name_there es j (omega arith))) (turned _ name (p.1 j blank le (omega arith)));
     }

@@ -36,20 +36,20 @@ rises (e ∷ es) h i zero lt l = absurd (omega arith)
 rises (e ∷ es) h zero (suc j) lt l = below_each e.0 es (first_so (below_all by_bytes e.0 es) _ h) j (omega arith)
 rises (e ∷ es) h (suc i) (suc j) lt l = rises es (second_so (below_all by_bytes e.0 es) _ h) i j (omega arith) (omega arith)
 
--- behind the first entry, a name has to go one place lower
+-- after the first entry, a name has to go one place lower
 goes_on : (e : List ℕ × ℕ) (es : Named) (name : List ℕ) (i : ℕ) → GoesAt (e ∷ es) name (suc i) → GoesAt es name i
 goes_on e es name i g =
-    record { within = let w = g.within in omega arith; before = λ j lt. g.before (suc j) (omega arith); behind = λ j le lt. g.behind (suc j) (omega arith) (omega arith) }
+    record { within = let w = g.within in omega arith; before = λ j lt. g.before (suc j) (omega arith); after = λ j le lt. g.after (suc j) (omega arith) (omega arith) }
 
 goes_first : (e : List ℕ × ℕ) (es : Named) (name : List ℕ) → GoesAt (e ∷ es) name 0 → GoesAt es name 0
 goes_first e es name g =
-    record { within = omega arith; before = λ j lt. absurd (omega arith); behind = λ j le lt. g.behind (suc j) (omega arith) (omega arith) }
+    record { within = omega arith; before = λ j lt. absurd (omega arith); after = λ j le lt. g.after (suc j) (omega arith) (omega arith) }
 
 -- to insert a name where it has to go is to put it in order
 pub insert_put : (es : Named) (name : List ℕ) (number i : ℕ) → GoesAt es name i → insert es i (name, number) ≡ put by_bytes name number es
 insert_put [] name number zero g = refl
 insert_put [] name number (suc i) g = absurd (let w = g.within in omega arith)
-insert_put (e ∷ es) name number zero g = ap (λ o. by_order o ((name, number) ∷ e ∷ es) ((e.0, number) ∷ es) (e ∷ put by_bytes name number es)) (sym (g.behind 0 (omega arith) (omega arith)))
+insert_put (e ∷ es) name number zero g = ap (λ o. by_order o ((name, number) ∷ e ∷ es) ((e.0, number) ∷ es) (e ∷ put by_bytes name number es)) (sym (g.after 0 (omega arith) (omega arith)))
 insert_put (e ∷ es) name number (suc i) g =
     ap (λ l. e ∷ l) (insert_put es name number i (goes_on e es name i g))
     ∙ ap (λ o. by_order o ((name, number) ∷ e ∷ es) ((e.0, number) ∷ es) (e ∷ put by_bytes name number es)) (sym (turned e.0 name (g.before 0 (omega arith))))
@@ -58,7 +58,7 @@ insert_put (e ∷ es) name number (suc i) g =
 pub find_none : (es : Named) (name : List ℕ) (i : ℕ) → GoesAt es name i → find by_bytes name es ≡ None
 find_none [] name i g = refl
 find_none (e ∷ es) name zero g =
-    ap (λ o. cond (is_eq o) (Some e.1) (find by_bytes name es)) (g.behind 0 (omega arith) (omega arith)) ∙ find_none es name 0 (goes_first e es name g)
+    ap (λ o. cond (is_eq o) (Some e.1) (find by_bytes name es)) (g.after 0 (omega arith) (omega arith)) ∙ find_none es name 0 (goes_first e es name g)
 find_none (e ∷ es) name (suc i) g =
     ap (λ o. cond (is_eq o) (Some e.1) (find by_bytes name es)) (turned e.0 name (g.before 0 (omega arith))) ∙ find_none es name i (goes_on e es name i g)
 

@@ -37,7 +37,7 @@ pub record StandsAt (es : List (List ℕ × ℕ)) (name : List ℕ) (i : ℕ) : 
 pub record GoesAt (es : List (List ℕ × ℕ)) (name : List ℕ) (i : ℕ) : Type 0 where
   pub within : i ≤ length es
   pub before : (j : ℕ) → j < i → by_bytes (name_at es j) name ≡ Less
-  pub behind : (j : ℕ) → i ≤ j → j < length es → by_bytes name (name_at es j) ≡ Less
+  pub after : (j : ℕ) → i ≤ j → j < length es → by_bytes name (name_at es j) ≡ Less
 
 -- a search answers where the name stands, or else where it has to go
 abbrev pub IsPlaceOf : List Entry → List ℕ → Result ℕ ℕ → Type 0

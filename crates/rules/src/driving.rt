@@ -64,8 +64,8 @@ impl Board {
         Some(j)
     }
 
-    // The buffer is the caller's, and so is the count: a run has no heap.
     // Makes as many lowest-numbered steps as the buffer is long, or until none is left, and writes their instances.
+    // The buffer is the caller's, since a run has no heap.
     // A step leaves what may run of every instance but the one that steps and the peer of its event, so of those struck out only the peer is a candidate again.
     pub fn drive<M: Medium>(&mut self, medium: &M, held: Option<Held>, out: &mut [u8]) -> usize
         ensures keeps { self.new.copy ≡ self.old.copy }
