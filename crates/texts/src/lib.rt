@@ -4,6 +4,7 @@
 mod items;
 mod parser;
 mod parsing;
+mod repeats;
 mod parts;
 #[cfg(test)]
 mod tests;
