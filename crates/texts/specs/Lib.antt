@@ -1,3 +1,4 @@
 pub mod Items
 pub mod Parsing
 pub mod Surveys
+pub mod Known

@@ -3,6 +3,7 @@
 
 mod items;
 mod parser;
+mod known;
 mod parsing;
 mod repeats;
 mod parts;
