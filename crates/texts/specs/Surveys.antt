@@ -1,11 +1,12 @@
 -- A chart text as a whole: its name, and how many instances and events it has.
-use Rattle.std.specs.Prelude.{ℕ, suc, cond, false, length, List, [], ◌∷◌, ◌++◌, Some, None, Option, Ok, Err, Result, Bool, nat_lt}
+use Rattle.std.specs.Prelude.{◌≡◌, ℕ, suc, cond, false, length, List, [], ◌∷◌, ◌++◌, Some, None, Option, Ok, Err, Result, Bool, nat_lt}
 use Rattle.std.specs.Str.{bytes_eq}
 use Rattle.charts.specs.declared.faults.Rule.TheVariants.{Lengths, Events}
 use Rattle.words.specs.declared.faults.Cause.TheVariants.{InstanceRepeated, Chart}
 use Rattle.words.specs.declared.faults.Fault.{Fault}
 use Rattle.words.specs.Sentences.{Placed, Sentence, sentences}
-use Rattle.words.specs.Reading.{others}
+use Rattle.words.specs.Reading.{placed, others}
+use Rattle.texts.specs.declared.size.Size.{Size as SizeText}
 use Rattle.sentences.specs.Wants.{at_byte, among}
 use Rattle.texts.specs.Items.{Item, Items, instance_named, event, instance_ends, items_from}
 use Rattle.texts.specs.declared.parts.Item.{Item as Read}
@@ -31,41 +32,35 @@ abbrev pub first_repeated : List Placed → List Placed → Option Placed
 first_repeated ns [] = None
 first_repeated ns (n ∷ more) = cond (among ns n.bytes) (Some n) (first_repeated (ns ++ (n ∷ [])) more)
 
+-- an instance that is named twice, and then the outcome: a name stands in the text before what is refused there
+abbrev pub counted_if : Option Placed → Result (Unit {0}) Fault → ℕ × ℕ → Result (ℕ × ℕ) Fault
+counted_if (Some n) outcome c = Err (at_byte InstanceRepeated n.start)
+counted_if None (Ok u) c = Ok c
+counted_if None (Err f) c = Err f
+
+-- how many instances and events there are, or the first fault
+abbrev pub counted : Items → Result (ℕ × ℕ) Fault
+counted is = counted_if (first_repeated [] (names_in is.items)) is.outcome (length (names_in is.items), events_in is.items)
+
+-- the same within the limits of a chart, instances before events
+abbrev pub limited : Result (ℕ × ℕ) Fault → Result (ℕ × ℕ) Fault
+limited (Err f) = Err f
+limited (Ok c) = cond (nat_lt 32 c.0) (Err (at_byte (Chart Lengths) 0)) (cond (nat_lt 4096 c.1) (Err (at_byte (Chart Events) 0)) (Ok c))
+
 -- a text's name, and how many instances and events it has
 pub record Size : Type 0 where
   pub title : Placed
   pub instances : ℕ
   pub events : ℕ
 
--- within the limits of a chart, instances before events
-abbrev pub within_limits : Size → Result Size Fault
-within_limits s =
-    cond (nat_lt 32 s.instances) (Err (at_byte (Chart Lengths) 0)) (cond (nat_lt 4096 s.events) (Err (at_byte (Chart Events) 0)) (Ok s))
-
--- an outcome without a fault, and then the limits
-abbrev pub if_ends : Result (Unit {0}) Fault → Size → Result Size Fault
-if_ends (Ok u) s = within_limits s
-if_ends (Err f) s = Err f
-
--- an instance that is named twice, and then the outcome: a name stands in the text before what is refused there
-abbrev pub if_once : Option Placed → Result (Unit {0}) Fault → Size → Result Size Fault
-if_once (Some n) outcome s = Err (at_byte InstanceRepeated n.start)
-if_once None outcome s = if_ends outcome s
-
-abbrev pub sized : Placed → Items → Size
-sized t is = record { title = t; instances = length (names_in is.items); events = events_in is.items }
-
--- what the items of a text that has this name come to
-abbrev pub surveyed_items : Placed → Items → Result Size Fault
-surveyed_items t is = if_once (first_repeated [] (names_in is.items)) is.outcome (sized t is)
-
-abbrev pub if_titled : Result Placed Fault → Items → Result Size Fault
-if_titled (Ok t) is = surveyed_items t is
-if_titled (Err f) is = Err f
+abbrev pub sized : Result Placed Fault → Result (ℕ × ℕ) Fault → Result Size Fault
+sized (Err f) r = Err f
+sized (Ok t) (Err f) = Err f
+sized (Ok t) (Ok c) = Ok (record { title = t; instances = c.0; events = c.1 })
 
 -- what a text comes to
 abbrev pub surveyed : List Sentence → Result Size Fault
-surveyed ss = if_titled (title_in ss) (items_from false (others ss))
+surveyed ss = sized (title_in ss) (limited (counted (items_from false (others ss))))
 
 -- the items of a text, none where it has no name
 abbrev pub items_if : Result Placed Fault → Items → List Item
@@ -81,3 +76,14 @@ is_named (Instance w) name = bytes_eq w.bytes.now name
 is_named (Event e) name = false
 is_named InstanceEnd name = false
 is_named End name = false
+
+-- the numbers that were counted, or the fault
+abbrev pub Counts : Items → Result (ℕ × ℕ) Fault → Type 0
+Counts is r = counted is ≡ r
+
+abbrev pub size_of : SizeText → Size
+size_of s = record { title = placed s.title; instances = s.instances; events = s.events }
+
+abbrev pub Surveys : List Sentence → Result SizeText Fault → Type 0
+Surveys ss (Ok s) = surveyed ss ≡ Ok (size_of s)
+Surveys ss (Err f) = surveyed ss ≡ Err f
