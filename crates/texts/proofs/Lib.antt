@@ -1,3 +1,4 @@
 pub mod Faults
 pub mod Passing
 pub mod Knowing
+pub mod Holding

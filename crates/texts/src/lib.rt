@@ -3,17 +3,16 @@
 
 mod counting;
 mod items;
-mod parser;
 mod known;
+mod parser;
 mod parsing;
+mod parts;
 mod repeats;
 mod size;
-
-mod parts;
+mod tally;
 #[cfg(test)]
 mod tests;
 
 pub use parser::Parser;
 pub use parts::{Item, Stage};
 pub use size::Size;
-pub use counting::survey;
