@@ -1,5 +1,5 @@
 -- A tally of one item more.
-use Rattle.std.proofs.Common.{◌≡◌, ℕ, suc, ◌+◌, ◌≤◌, true, false, List, [], ◌∷◌, ◌++◌, length, Ok, Err, refl, sym, ap, ◌∙◌, subst, arith}
+use Rattle.std.proofs.Common.{◌≡◌, ◌+◌, ◌≤◌, false, List, [], ◌∷◌, ◌++◌, length, Ok, refl, sym, ap, ◌∙◌, subst, arith}
 use Rattle.std.proofs.lemmas.List.{length_push, append-nil}
 use Rattle.names.specs.Numbers.{Numbers}
 use Rattle.words.specs.declared.parts.Word.{Word}
@@ -9,7 +9,7 @@ use Rattle.words.specs.Reading.{placed}
 use Rattle.sentences.specs.Wants.{among}
 use Rattle.sentences.specs.Events.{EventWords, event_words}
 use Rattle.texts.specs.declared.parts.Item.{Item as Read}
-use Rattle.texts.specs.declared.parts.Item.TheVariants.{Instance, Event, InstanceEnd, End}
+use Rattle.texts.specs.declared.parts.Item.TheVariants.{Instance, Event, InstanceEnd}
 use Rattle.texts.specs.declared.tally.Tally.{Tally}
 use Rattle.texts.specs.Items.{Item, instance_named, event, instance_ends}
 use Rattle.texts.specs.Surveys.{names_in, events_in}

@@ -1,8 +1,8 @@
 -- Names of instances among the items that were read.
-use Rattle.std.proofs.Common.{◌≡◌, ℕ, zero, suc, ◌+◌, ◌<◌, ◌≤◌, Bool, true, false, ◌||◌, List, [], ◌∷◌, ◌++◌, length, take, drop, Ok, Err, Result, refl, sym, ap, ap₂, ◌∙◌, subst, append_assoc, add-one, arith}
+use Rattle.std.proofs.Common.{◌≡◌, ℕ, zero, suc, ◌+◌, ◌<◌, ◌≤◌, Bool, true, false, ◌||◌, List, [], ◌∷◌, ◌++◌, length, take, drop, refl, sym, ap, ◌∙◌, subst, add-one, arith}
 use Rattle.std.proofs.lemmas.List.{append-nil}
 use Rattle.std.specs.Str.{bytes_eq}
-use Rattle.words.specs.Sentences.{Placed, Sentence}
+use Rattle.words.specs.Sentences.{Placed}
 use Rattle.sentences.specs.Wants.{among}
 use Rattle.words.specs.Reading.{placed}
 use Rattle.sentences.specs.Events.{event_words}
@@ -36,7 +36,7 @@ among_push (m ∷ ns) n name = ap (λ (b : Bool). bytes_eq m.bytes name || b) (a
     go false = refl
 
 -- the item at a place, and those after it
-split_at : (k : ℕ) (all : List Item) (i : Item) (rest : List Item) → drop k all ≡ i ∷ rest → (take (suc k) all ≡ take k all ++ (i ∷ [])) × (drop (suc k) all ≡ rest)
+pub split_at : (k : ℕ) (all : List Item) (i : Item) (rest : List Item) → drop k all ≡ i ∷ rest → (take (suc k) all ≡ take k all ++ (i ∷ [])) × (drop (suc k) all ≡ rest)
 split_at zero [] i rest is = absurd (let l = ap length is in omega arith)
 split_at zero (x ∷ xs) i rest is = let same : x ≡ i = cc in let others : xs ≡ rest = cc in (ap (λ (z : Item). z ∷ []) same, others)
 split_at (suc k) [] i rest is = absurd (let l = ap length is in omega arith)

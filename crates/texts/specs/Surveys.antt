@@ -1,10 +1,10 @@
 -- A chart text as a whole: its name, and how many instances and events it has.
-use Rattle.std.specs.Prelude.{◌≡◌, ℕ, suc, cond, false, length, List, [], ◌∷◌, ◌++◌, Some, None, Option, Ok, Err, Result, Bool, nat_lt}
+use Rattle.std.specs.Prelude.{◌≡◌, ℕ, suc, cond, true, false, length, List, [], ◌∷◌, ◌++◌, Some, None, Option, Ok, Err, Result, Bool, nat_lt}
 use Rattle.std.specs.Str.{bytes_eq}
 use Rattle.charts.specs.declared.faults.Rule.TheVariants.{Lengths, Events}
 use Rattle.words.specs.declared.faults.Cause.TheVariants.{InstanceRepeated, Chart}
 use Rattle.words.specs.declared.faults.Fault.{Fault}
-use Rattle.words.specs.Sentences.{Placed, Sentence, sentences}
+use Rattle.words.specs.Sentences.{Placed, Sentence}
 use Rattle.words.specs.Reading.{placed, others}
 use Rattle.texts.specs.declared.size.Size.{Size as SizeText}
 use Rattle.sentences.specs.Wants.{at_byte, among}
@@ -76,6 +76,13 @@ is_named (Instance w) name = bytes_eq w.bytes.now name
 is_named (Event e) name = false
 is_named InstanceEnd name = false
 is_named End name = false
+
+-- an item that was read is the end
+abbrev pub is_end : Read → Bool
+is_end (Instance w) = false
+is_end (Event e) = false
+is_end InstanceEnd = false
+is_end End = true
 
 -- the numbers that were counted, or the fault
 abbrev pub Counts : Items → Result (ℕ × ℕ) Fault → Type 0

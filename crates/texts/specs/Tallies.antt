@@ -1,5 +1,5 @@
 -- What the items that were read come to.
-use Rattle.std.specs.Prelude.{◌≡◌, ℕ, true, false, List, [], ◌∷◌, ◌++◌, length, Ok, Err, Result}
+use Rattle.std.specs.Prelude.{◌≡◌, true, false, List, [], ◌∷◌, ◌++◌, length, Ok, Err, Result}
 use Rattle.words.specs.declared.faults.Cause.TheVariants.{InstanceRepeated}
 use Rattle.words.specs.declared.faults.Fault.{Fault}
 use Rattle.words.specs.Reading.{placed}

@@ -9,6 +9,7 @@ mod parsing;
 mod parts;
 mod repeats;
 mod size;
+mod surveying;
 mod tally;
 #[cfg(test)]
 mod tests;
@@ -16,3 +17,4 @@ mod tests;
 pub use parser::Parser;
 pub use parts::{Item, Stage};
 pub use size::Size;
+pub use surveying::survey;

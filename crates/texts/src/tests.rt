@@ -1,4 +1,6 @@
-use crate::{Item, Parser};
+use crate::{Item, Parser, survey};
+use std::alloc::{AllocError, Global};
+use std::test::Fail;
 use words::Fault;
 
 // How many instances and events a text has, of at most 255 each, or its fault.
@@ -79,4 +81,63 @@ fn texts_are_refused_at_their_byte(rt: HostRuntime) {
         };
         assert_eq!(rt; said, (number, byte));
     }
+}
+
+// What a text comes to: its instances and events, or the number and the byte of its fault.
+fn sized(text: &[u8]) -> Result<(usize, usize), (u8, usize)> {
+    match survey(text) {
+        Ok(size) => Ok((size.instances, size.events)),
+        Err(fault) => Err((u8::from(fault.cause), fault.byte)),
+    }
+}
+
+#[test]
+fn instances_are_named_once(rt: HostRuntime) {
+    assert_eq!(rt;
+        sized(b"msc c;instance a;action a;endinstance;instance b;endinstance;endmsc;"),
+        Ok((2, 1))
+    );
+    // the second name is told, also where the semicolon after it is missing
+    assert_eq!(rt;
+        sized(b"msc c;instance a;endinstance;instance a;endinstance;endmsc;"),
+        Err((25, 38))
+    );
+    assert_eq!(rt;
+        sized(b"msc c;instance a;endinstance;instance a b"),
+        Err((25, 38))
+    );
+    // a fault before it is told first
+    assert_eq!(rt;
+        sized(b"msc c;instance a;action;endinstance;instance a;"),
+        Err((23, 23))
+    );
+}
+
+// A text of so many instances without events, the last of which is named as the one before it.
+fn many(heap: Global, instances: usize) -> Result<Vec<u8>, AllocError> {
+    let mut text = Vec::new(heap);
+    text.extend_from_slice(b"msc c;")?;
+    for i in 0..instances {
+        let number = i.min(instances.saturating_sub(2));
+        text.extend_from_slice(b"instance ")?;
+        for place in [1000, 100, 10, 1] {
+            text.push(b'0' + (number / place % 10) as u8)?;
+        }
+        text.extend_from_slice(b";endinstance;")?;
+    }
+    text.extend_from_slice(b"endmsc;")?;
+    Ok(text)
+}
+
+#[test]
+fn names_past_the_index_are_found(rt: HostRuntime) -> Result<(), Fail> {
+    // each instance takes 26 bytes, and its name stands 9 bytes from its start
+    for instances in [2, 33, 4096, 4097, 4098, 4100] {
+        let text = many(rt.alloc(), instances)?;
+        assert_eq!(rt;
+            sized(text.as_slice()),
+            Err((25, 6 + 26 * (instances - 1) + 9))
+        );
+    }
+    Ok(())
 }

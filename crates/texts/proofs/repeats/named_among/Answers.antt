@@ -1,4 +1,4 @@
-use Rattle.std.proofs.Common.{◌≤◌, false, sym, ap, ◌∙◌, arith}
+use Rattle.std.proofs.Common.{false, sym, ap, ◌∙◌, arith}
 use Rattle.words.specs.Sentences.{sentences}
 use Rattle.words.specs.Reading.{others}
 use Rattle.texts.specs.Items.{Items, items_from}
