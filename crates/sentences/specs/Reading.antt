@@ -1,10 +1,11 @@
 -- Reading a sentence word by word.
-use Rattle.std.specs.Prelude.{◌≡◌, List, [], Some, None, Ok, Err, Result}
+use Rattle.std.specs.Prelude.{◌≡◌, Bool, true, false, List, [], Some, None, Ok, Err, Result}
 use Rattle.words.specs.declared.parts.Word.{Word}
+use Rattle.words.specs.declared.faults.Cause.TheVariants.{WrongWord}
 use Rattle.words.specs.declared.faults.Fault.{Fault}
 use Rattle.words.specs.Sentences.{Placed, Sentence}
 use Rattle.words.specs.Reading.{placed, first, others, with_first_word}
-use Rattle.sentences.specs.Wants.{Want, fault_of, no_word, word_fault, reads}
+use Rattle.sentences.specs.Wants.{Want, at_byte, fault_of, no_word, word_fault, reads}
 
 -- the words of the first sentence of what is left, where it has all that is wanted, or its fault
 abbrev pub reads_first : List Want → List Sentence → Result (List Placed) Fault
@@ -19,6 +20,11 @@ TakesWord before (Err f) after = ((first before).words ≡ []) × (no_word (firs
 abbrev pub Takes : Want → List Sentence → Result Word Fault → List Sentence → Type 0
 Takes p before (Ok w) after = (fault_of p w.bytes.now ≡ None) × (before ≡ with_first_word (placed w) after)
 Takes p before (Err f) after = word_fault p (first before).words (first before).ending ≡ Some f
+
+-- the word, where it is wanted; else it is refused
+abbrev pub Accepts : Word → Bool → Result Word Fault → Type 0
+Accepts w true r = r ≡ Ok w
+Accepts w false r = r ≡ Err (at_byte WrongWord w.start)
 
 -- the semicolon was read, and what is left are the sentences after it; or the first sentence has this fault
 abbrev pub Closes : List Sentence → Result (Unit {0}) Fault → List Sentence → Type 0

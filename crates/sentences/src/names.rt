@@ -1,7 +1,7 @@
 ghost use Rattle.std.specs.Prelude.{◌≡◌, IfOk};
 ghost use Rattle.words.specs.Reading.{left, placed, StandsIn};
 ghost use Rattle.sentences.specs.Wants.{structure_word, event_word, reserved, exactly, name, peer};
-ghost use Rattle.sentences.specs.Reading.{TakesWord, Takes, Closes};
+ghost use Rattle.sentences.specs.Reading.{TakesWord, Takes, Accepts, Closes};
 
 use words::{Cause, Fault, Piece, Reader, Word};
 
@@ -44,6 +44,17 @@ pub fn read_word<'t>(reader: &mut Reader<'t>) -> Result<Word<'t>, Fault>
     }
 }
 
+// The word, where it is wanted.
+fn accept<'t>(word: Word<'t>, is_wanted: bool) -> Result<Word<'t>, Fault>
+    ensures { Accepts word.entry is_wanted result }
+{
+    if is_wanted {
+        Ok(word)
+    } else {
+        Err(Fault::at(Cause::WrongWord, word.start))
+    }
+}
+
 // The next word, which has to be this one.
 pub fn expect_word<'t>(reader: &mut Reader<'t>, expected: &[u8]) -> Result<Word<'t>, Fault>
     ensures takes { Takes (exactly expected.now) (left reader.old) result (left reader.new) }
@@ -51,10 +62,7 @@ pub fn expect_word<'t>(reader: &mut Reader<'t>, expected: &[u8]) -> Result<Word<
     ensures keeps { reader.new.text ≡ reader.old.text }
 {
     let word = read_word(reader)?;
-    if !word.is(expected) {
-        return Err(Fault::at(Cause::WrongWord, word.start));
-    }
-    Ok(word)
+    accept(word, word.is(expected))
 }
 
 // The next word, which has to be a name.
@@ -64,10 +72,7 @@ pub fn read_name<'t>(reader: &mut Reader<'t>) -> Result<Word<'t>, Fault>
     ensures keeps { reader.new.text ≡ reader.old.text }
 {
     let word = read_word(reader)?;
-    if is_reserved(&word) {
-        return Err(Fault::at(Cause::WrongWord, word.start));
-    }
-    Ok(word)
+    accept(word, !is_reserved(&word))
 }
 
 // The next word, which has to be a name or `env`.
@@ -77,10 +82,7 @@ pub fn read_peer<'t>(reader: &mut Reader<'t>) -> Result<Word<'t>, Fault>
     ensures keeps { reader.new.text ≡ reader.old.text }
 {
     let word = read_word(reader)?;
-    if !word.is(b"env") && is_reserved(&word) {
-        return Err(Fault::at(Cause::WrongWord, word.start));
-    }
-    Ok(word)
+    accept(word, word.is(b"env") || !is_reserved(&word))
 }
 
 // The semicolon of the sentence.
