@@ -1,4 +1,4 @@
-ghost use Rattle.std.specs.Prelude.{◌≡◌, [], ◌∷◌, IfOk};
+ghost use Rattle.std.specs.Prelude.{◌≡◌, [], ◌∷◌, IfOk, OnErr};
 ghost use Rattle.words.specs.Reading.{placed, first, left};
 ghost use Rattle.sentences.specs.Wants.{reads, name};
 ghost use Rattle.sentences.specs.Events.{EventRead, EventStandsIn, event_words, event_in, kind_in, message_in, if_read, peer_by, placed_peer};
@@ -73,8 +73,8 @@ fn kind_in(word: &Word) -> Option<Kind>
     }
 }
 
-// The rest of the event whose first word was read.
-pub fn read_event<'t>(reader: &mut Reader<'t>, keyword: Word<'t>) -> Result<EventText<'t>, Fault>
+// The rest of an event by its first word.
+fn read_rest<'t>(reader: &mut Reader<'t>, keyword: Word<'t>) -> Result<EventText<'t>, Fault>
     ensures reads { EventRead (event_in (placed keyword.entry) (first (left reader.old))) (left reader.old) result (left reader.new) }
     ensures stands { IfOk result (λ e. EventStandsIn reader.old.text.now (event_words e)) }
     ensures keeps { reader.new.text ≡ reader.old.text }
@@ -85,4 +85,17 @@ pub fn read_event<'t>(reader: &mut Reader<'t>, keyword: Word<'t>) -> Result<Even
         Some(Kind::Action) => read_action(reader, keyword),
         None => Err(Fault::at(Cause::WrongWord, keyword.start)),
     }
+}
+
+// The rest of the event whose first word was read.
+pub fn read_event<'t>(reader: &mut Reader<'t>, keyword: Word<'t>) -> Result<EventText<'t>, Fault>
+    ensures reads { EventRead (event_in (placed keyword.entry) (first (left reader.old))) (left reader.old) result (left reader.new) }
+    ensures stands { IfOk result (λ e. EventStandsIn reader.old.text.now (event_words e)) }
+    ensures keeps { reader.new.text ≡ reader.old.text }
+    ensures refused { OnErr result (reader.new ≡ reader.old) }
+{
+    let mut ahead = *reader;
+    let event = read_rest(&mut ahead, keyword)?;
+    *reader = ahead;
+    Ok(event)
 }

@@ -1,4 +1,4 @@
-ghost use Rattle.std.specs.Prelude.{◌≡◌, IfOk};
+ghost use Rattle.std.specs.Prelude.{◌≡◌, IfOk, OnErr};
 ghost use Rattle.words.specs.Reading.{left, placed, StandsIn};
 ghost use Rattle.sentences.specs.Wants.{structure_word, event_word, reserved, exactly, name, peer};
 ghost use Rattle.sentences.specs.Reading.{TakesWord, Takes, Accepts, Closes};
@@ -36,9 +36,14 @@ pub fn read_word<'t>(reader: &mut Reader<'t>) -> Result<Word<'t>, Fault>
     ensures takes { TakesWord (left reader.old) result (left reader.new) }
     ensures stands { IfOk result (λ w. StandsIn reader.old.text.now (placed w)) }
     ensures keeps { reader.new.text ≡ reader.old.text }
+    ensures refused { OnErr result (reader.new ≡ reader.old) }
 {
-    match reader.next_piece()? {
-        Piece::Word(word) => Ok(word),
+    let mut ahead = *reader;
+    match ahead.next_piece()? {
+        Piece::Word(word) => {
+            *reader = ahead;
+            Ok(word)
+        }
         Piece::Semicolon(byte) => Err(Fault::at(Cause::WrongWord, byte)),
         Piece::End(byte) => Err(Fault::at(Cause::TextEnds, byte)),
     }
@@ -60,9 +65,13 @@ pub fn expect_word<'t>(reader: &mut Reader<'t>, expected: &[u8]) -> Result<Word<
     ensures takes { Takes (exactly expected.now) (left reader.old) result (left reader.new) }
     ensures stands { IfOk result (λ w. StandsIn reader.old.text.now (placed w)) }
     ensures keeps { reader.new.text ≡ reader.old.text }
+    ensures refused { OnErr result (reader.new ≡ reader.old) }
 {
-    let word = read_word(reader)?;
-    accept(word, word.is(expected))
+    let mut ahead = *reader;
+    let word = read_word(&mut ahead)?;
+    let word = accept(word, word.is(expected))?;
+    *reader = ahead;
+    Ok(word)
 }
 
 // The next word, which has to be a name.
@@ -70,9 +79,13 @@ pub fn read_name<'t>(reader: &mut Reader<'t>) -> Result<Word<'t>, Fault>
     ensures takes { Takes name (left reader.old) result (left reader.new) }
     ensures stands { IfOk result (λ w. StandsIn reader.old.text.now (placed w)) }
     ensures keeps { reader.new.text ≡ reader.old.text }
+    ensures refused { OnErr result (reader.new ≡ reader.old) }
 {
-    let word = read_word(reader)?;
-    accept(word, !is_reserved(&word))
+    let mut ahead = *reader;
+    let word = read_word(&mut ahead)?;
+    let word = accept(word, !is_reserved(&word))?;
+    *reader = ahead;
+    Ok(word)
 }
 
 // The next word, which has to be a name or `env`.
@@ -80,18 +93,27 @@ pub fn read_peer<'t>(reader: &mut Reader<'t>) -> Result<Word<'t>, Fault>
     ensures takes { Takes peer (left reader.old) result (left reader.new) }
     ensures stands { IfOk result (λ w. StandsIn reader.old.text.now (placed w)) }
     ensures keeps { reader.new.text ≡ reader.old.text }
+    ensures refused { OnErr result (reader.new ≡ reader.old) }
 {
-    let word = read_word(reader)?;
-    accept(word, word.is(b"env") || !is_reserved(&word))
+    let mut ahead = *reader;
+    let word = read_word(&mut ahead)?;
+    let word = accept(word, word.is(b"env") || !is_reserved(&word))?;
+    *reader = ahead;
+    Ok(word)
 }
 
 // The semicolon of the sentence.
 pub fn close<'t>(reader: &mut Reader<'t>) -> Result<(), Fault>
     ensures closes { Closes (left reader.old) result (left reader.new) }
     ensures keeps { reader.new.text ≡ reader.old.text }
+    ensures refused { OnErr result (reader.new ≡ reader.old) }
 {
-    match reader.next_piece()? {
-        Piece::Semicolon(_) => Ok(()),
+    let mut ahead = *reader;
+    match ahead.next_piece()? {
+        Piece::Semicolon(_) => {
+            *reader = ahead;
+            Ok(())
+        }
         Piece::Word(word) => Err(Fault::at(Cause::WrongWord, word.start)),
         Piece::End(byte) => Err(Fault::at(Cause::TextEnds, byte)),
     }
