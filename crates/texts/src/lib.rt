@@ -1,20 +1,17 @@
-// Chart texts: their items.
+// The reader of chart texts: a chart's tables, filled from its text.
 #![tactic(auto)]
 
-mod counting;
-mod items;
-mod known;
-mod parser;
-mod parsing;
-mod parts;
-mod repeats;
-mod size;
-mod surveying;
-mod tally;
-#[cfg(test)]
-mod tests;
+mod directory;
+mod filling;
+mod listing;
+mod noting;
+mod reader;
+mod reading;
+mod resolving;
+mod rows;
+mod soundness;
+mod starts;
 
-pub use parser::Parser;
-pub use parts::{Item, Stage};
-pub use size::Size;
-pub use surveying::survey;
+pub use reader::read;
+pub use reading::Reading;
+pub use rows::Name;

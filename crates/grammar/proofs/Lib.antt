@@ -1,0 +1,11 @@
+pub mod Bracketing
+pub mod Lists
+pub mod Scanned
+pub mod Spelled
+pub mod Saying
+pub mod Events
+pub mod Found
+pub mod Read
+pub mod Exactly
+pub mod Plainly
+pub mod Samples

@@ -1,0 +1,6 @@
+pub mod Stepping
+pub mod Telling
+pub mod Holding
+pub mod Naming
+pub mod Matching
+pub mod Fitting

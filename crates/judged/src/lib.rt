@@ -1,0 +1,9 @@
+// A chart text judged: the lines of its listing and of the verdict on a new run.
+#![tactic(auto)]
+
+mod adding;
+mod judging;
+mod listed;
+mod steps;
+
+pub use judging::judged_lines;

@@ -1,0 +1,4 @@
+pub mod Names
+pub mod Listings
+pub mod Buffers
+pub mod Lines

@@ -1,8 +1,0 @@
-use Rattle.words.specs.Sentences.{sentences}
-use Rattle.texts.specs.Surveys.{items_in}
-use Rattle.texts.specs.Parsing.{items_left}
-use Rattle.texts.proofs.Passing.{Passed}
-use Rattle.texts.proofs.repeats.named_among.Given as goal
-
-abbrev pub invariant-loop : goal.invariant-loop
-invariant-loop l = Passed (items_in (sentences l.text)) l.counter (items_left l.parser).items l.name
