@@ -3,6 +3,7 @@ pub mod Tells
 pub mod Stands
 pub mod Runs
 pub mod Moves
+pub mod Nexts
 pub mod Steps
 pub mod Drives
 pub mod Verdicts

@@ -16,6 +16,10 @@ lists_of run = board_lists run.board
 abbrev pub fault_of : {M : Type 0} → Run M → Option Fault
 fault_of run = run.board.copy.fault
 
+-- its medium
+abbrev pub medium_of : {M : Type 0} → Run M → M
+medium_of run = run.medium
+
 -- the position of each instance
 abbrev pub positions : {M : Type 0} → Run M → ℕ → ℕ
 positions run = board_positions run.board

@@ -1,6 +1,7 @@
 // Runs of a chart over a medium: step, drive, restart, judge and latest.
 #![tactic(auto)]
 
+mod asking;
 mod calls;
 mod drive;
 mod judge;

@@ -1,0 +1,6 @@
+// The line of what a log is.
+#![tactic(auto)]
+
+mod answers;
+
+pub use answers::{Said, log_line};

@@ -1,0 +1,12 @@
+pub mod Causes
+pub mod Keeping
+pub mod Reading
+pub mod Followers
+pub mod Heads
+pub mod Entries
+pub mod Events
+pub mod Ends
+pub mod Stages
+pub mod Logs
+pub mod AnnexB
+pub mod Carried
