@@ -1,8 +1,10 @@
 // Measures charts of the largest sizes: tables, and runs.
 #![tactic(auto)]
 
+mod growing;
 mod run_times;
 
+use crate::growing::measure_growing;
 use crate::run_times::measure_runs;
 use charts::{Chart, Event, Kind, Peer};
 use std::alloc::{AllocError, Global};
@@ -59,10 +61,11 @@ fn run(rt: &HostRuntime) -> anyhow::Result<()> {
     let words = env::args(rt)?.collect::<Vec<String>>(rt.alloc())?;
     match words.as_slice() {
         [] | [_] => {
-            rt.println("usage: bench tables, or bench runs")?;
+            rt.println("usage: measure tables, measure runs, or measure growing")?;
             Ok(())
         }
         [_, what] if what.as_str() == "runs" => measure_runs(rt),
+        [_, what] if what.as_str() == "growing" => measure_growing(rt),
         _ => measure(rt),
     }
 }

@@ -32,10 +32,10 @@ fn pairs(heap: Global, couples: u8, messages: u16) -> Result<Flat, AllocError> {
     Flat::new(heap, &Table::new(lengths.as_slice(), events.as_slice()))
 }
 
-// Nine charts of 16 pairs with 14 messages each, joined one after the other by eight joins: 4,032 events.
-fn pile(heap: Global) -> Result<Flat, AllocError> {
+// Charts of 16 pairs with 14 messages each, 448 events, joined one after the other by so many joins.
+pub(crate) fn pile(heap: Global, joins: u8) -> Result<Flat, AllocError> {
     let mut chart = pairs(heap, 16, 14)?;
-    for _ in 0..8 {
+    for _ in 0..joins {
         let next = pairs(heap, 16, 14)?;
         chart = Flat::new(heap, &After::new(chart, next))?;
     }
@@ -43,7 +43,7 @@ fn pile(heap: Global) -> Result<Flat, AllocError> {
 }
 
 // The sum of the latest places of all events, by hand, so that it saturates and is not proved to fit. A refusal has no place: 0.
-fn places<C: Chart>(chart: &C, run: &Run<Free>) -> u64 {
+pub(crate) fn places<C: Chart>(chart: &C, run: &Run<Free>) -> u64 {
     let mut sum = 0u64;
     for i in 0..chart.width() {
         for k in 0..chart.count(i) {
@@ -83,5 +83,5 @@ pub(crate) fn measure_runs(rt: &HostRuntime) -> anyhow::Result<()> {
         "16 pairs with 256 events each",
         &pairs(rt.alloc(), 16, 128)?,
     )?;
-    measure_chart(rt, "pile of 8 joins", &pile(rt.alloc())?)
+    measure_chart(rt, "pile of 8 joins", &pile(rt.alloc(), 8)?)
 }

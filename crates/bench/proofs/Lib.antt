@@ -1,0 +1,4 @@
+pub mod Computed
+pub mod Only
+pub mod Told
+pub mod Each

@@ -1,0 +1,121 @@
+// Measures how reading a chart text, judging its chart and all latest places grow with the chart.
+use crate::run_times::{pile, places};
+use charts::{Chart, Event, MOST_EVENTS, MOST_INSTANCES, NO_EVENT};
+use media::Free;
+use runs::{Run, Verdict};
+use std::alloc::{AllocError, Global};
+use std::time::Instant;
+use tables::Table;
+use texts::{Name, Reading, read};
+
+const NO_NAME: Name = Name {
+    start: 0,
+    length: 0,
+};
+
+// The text of a ring of instances: each outputs so many messages to the next, and inputs as many from the one before.
+fn ring_text(heap: Global, instances: u16, messages: u16) -> Result<String, AllocError> {
+    let count = instances.max(1);
+    let mut text = String::new(heap);
+    write!(text, "msc ring;")?;
+    for i in 0..count {
+        let next = i.wrapping_add(1) % count;
+        let before = i.wrapping_add(count).wrapping_sub(1) % count;
+        write!(text, "instance i{i};")?;
+        for m in 0..messages {
+            write!(text, "out m{i}x{m} to i{next};")?;
+        }
+        for m in 0..messages {
+            write!(text, "in m{before}x{m} from i{before};")?;
+        }
+        write!(text, "endinstance;")?;
+    }
+    write!(text, "endmsc;")?;
+    Ok(text)
+}
+
+// Shows how long a new run, judging it and all latest places take.
+fn time_chart<C: Chart>(rt: &HostRuntime, chart: &C) -> anyhow::Result<()> {
+    let start = Instant::now(rt)?;
+    let run = Run::new(chart, Free);
+    let made = start.elapsed(rt)?.as_micros();
+    let mut order = [0; MOST_EVENTS];
+    let start = Instant::now(rt)?;
+    let verdict = run.judge(&mut order);
+    let judged = start.elapsed(rt)?.as_micros();
+    let steps = match verdict {
+        Ok(Verdict::Runs(n)) => n,
+        Ok(Verdict::Stuck(_)) | Err(_) => 0,
+    };
+    let start = Instant::now(rt)?;
+    let sum = places(chart, &run);
+    let took = start.elapsed(rt)?.as_micros();
+    println!(rt; " {made} | {judged} | {took} | {steps} steps, places sum to {sum} |")?;
+    Ok(())
+}
+
+// The same of the chart over the rows in use.
+fn time_table(
+    rt: &HostRuntime,
+    reading: &Reading,
+    lengths: &[u16],
+    events: &[Event],
+) -> anyhow::Result<()> {
+    match (
+        lengths.get(..reading.instances),
+        events.get(..reading.events),
+    ) {
+        (Some(lengths), Some(events)) => time_chart(rt, &Table::new(lengths, events)),
+        (_, _) => Ok(()),
+    }
+}
+
+// Reads a text of a ring, and shows how long it takes, and how long its chart takes.
+fn time_ring(rt: &HostRuntime, instances: u16, messages: u16) -> anyhow::Result<()> {
+    let text = ring_text(rt.alloc(), instances, messages)?;
+    let bytes = text.as_bytes();
+    let mut lengths = [0; MOST_INSTANCES];
+    let mut events = [NO_EVENT; MOST_EVENTS];
+    let mut names = [NO_NAME; MOST_INSTANCES];
+    let mut messages = [NO_NAME; MOST_EVENTS];
+    let start = Instant::now(rt)?;
+    let answer = read(
+        bytes,
+        &mut lengths,
+        &mut events,
+        &mut names,
+        &mut messages,
+        &mut [],
+    );
+    let took = start.elapsed(rt)?.as_micros();
+    let Ok(reading) = answer else {
+        return Ok(());
+    };
+    let size = bytes.len();
+    print!(rt; "| {instances} | {} | {size} | {took} |", reading.events)?;
+    time_table(rt, &reading, &lengths, &events)
+}
+
+pub(crate) fn measure_growing(rt: &HostRuntime) -> anyhow::Result<()> {
+    rt.println("microseconds:")?;
+    rt.println(
+        "| instances | events | bytes of text | read | new run | judged | all latest places | |",
+    )?;
+    rt.println("|---|---|---|---|---|---|---|---|")?;
+    for instances in [2, 9, 32u16] {
+        for events in [256, 512, 1024, 2048, 4096u16] {
+            time_ring(rt, instances, events / (2 * instances))?;
+        }
+    }
+    rt.println("| joins | events | new run | judged | all latest places | |")?;
+    rt.println("|---|---|---|---|---|---|")?;
+    for joins in 1..=8u8 {
+        let chart = pile(rt.alloc(), joins)?;
+        print!(rt;
+            "| {joins} | {} |",
+            chart.summary().map_or(0, |size| size.events)
+        )?;
+        time_chart(rt, &chart)?;
+    }
+    Ok(())
+}
