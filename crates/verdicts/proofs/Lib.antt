@@ -1,0 +1,4 @@
+pub mod Rowed
+pub mod Readable
+pub mod Judged
+pub mod Followed

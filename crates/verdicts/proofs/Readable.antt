@@ -1,0 +1,119 @@
+-- What a text that is read says of its tables.
+use Rattle.std.proofs.Common.{◌≡◌, ℕ, zero, suc, List, [], ◌∷◌, ◌++◌, length, replicate, take, map, slice_index_or, Some, None, Option, Ok, Err, Result, refl, sym, ap, ◌∙◌, subst₂}
+use mathlib.Core.Path.{fun_ext}
+use Rattle.std.proofs.Math.Seq.{take-append_seam}
+use Rattle.charts.specs.declared.parts.Event.{Event}
+use Rattle.charts.specs.Events.{no_event}
+use Rattle.charts.specs.declared.faults.Fault.{Fault as ChartFault}
+use Rattle.checks.specs.Choice.{or_else, unless}
+use Rattle.checks.specs.Checked.{checked}
+use Rattle.words.specs.declared.faults.Fault.{Fault}
+use Rattle.words.specs.declared.faults.Cause.TheVariants.{ShortTable}
+use Rattle.words.specs.Sentences.{Sentence, sentences}
+use Rattle.sentences.specs.Wants.{at_byte}
+use Rattle.items.specs.Instances.{InstanceWords, instances_in}
+use Rattle.items.specs.Surveys.{Size, items_in, surveyed}
+use Rattle.tables.specs.TableLists.{table_lists}
+use Rattle.texts.specs.declared.rows.Name.{Name}
+use Rattle.texts.specs.Rows.{padded, no_name}
+use Rattle.texts.specs.Directories.{named_in}
+use Rattle.texts.specs.Drafts.{first_unknown}
+use Rattle.texts.specs.Readings.{Rooms, Answer, Tables, tables_of, all_events, lengths_in, rows_in, enough, unknown_fault, chart_fault, refusal, answer, unless_fault, read_sized, read_as, greatest}
+use Rattle.texts.proofs.Sized.{sized_text}
+use Rattle.texts.proofs.Answering.{as_long, as_many}
+use Rattle.verdicts.specs.declared.charted.Charted.{Charted}
+use Rattle.verdicts.specs.declared.answers.Judgement.{Judgement}
+use Rattle.verdicts.specs.declared.answers.Member.{Member}
+use Rattle.verdicts.specs.Answers.{no_member, member, member_of, stuck}
+use Rattle.verdicts.specs.Charts.{Holds, read, lists_of, names_of, items_of}
+use Rattle.verdicts.specs.Kept.{lists_in}
+use Rattle.verdicts.specs.Judging.{Judges, runs_by, stuck_by}
+
+-- the last of three checks passes where all do
+last_passes : {X : Type 0} (x y z : Option X) → or_else x (or_else y (or_else z None)) ≡ None → z ≡ None
+last_passes None None None e = refl
+last_passes None None (Some z) e = cc
+last_passes None (Some y) z e = cc
+last_passes (Some x) y z e = cc
+
+no_fault : (ns : List InstanceWords) (f : Option ChartFault) → chart_fault ns f ≡ None → f ≡ None
+no_fault ns None e = refl
+no_fault ns (Some f) e = cc
+
+answered_none : (f : Option Fault) (a b : Answer) → unless_fault f a ≡ Ok b → (f ≡ None) × (a ≡ b)
+answered_none None a b e = (refl, cc)
+answered_none (Some f) a b e = cc
+
+-- what is known of the chart of a text that was read
+record Readable (ss : List Sentence) (a : Answer) : Type 0 where
+  pub instances : a.instances ≡ length (lengths_in (items_in ss))
+  pub events : a.events ≡ length (rows_in (items_in ss))
+  pub sound : checked (lengths_in (items_in ss)) (rows_in (items_in ss)) ≡ None
+
+sized_readable : (r : Rooms) (ss : List Sentence) (a : Answer) (size : Result Size Fault) → surveyed ss ≡ size → read_sized r (items_in ss) size ≡ Ok a → Readable ss a
+sized_readable r ss a (Err f) s e = cc
+sized_readable r ss a (Ok size) s e =
+    let is = items_in ss in
+    let both = answered_none (refusal r is) (answer size (named_in is)) a e in
+    let whole = sized_text ss size s in
+    record {
+      instances = sym (ap (λ (x : Answer). x.instances) both.1) ∙ sym (as_long ss size s whole r);
+      events = sym (ap (λ (x : Answer). x.events) both.1) ∙ sym (as_many ss size s whole r);
+      sound = no_fault (instances_in is) (checked (lengths_in is) (rows_in is))
+          (last_passes (unless (enough r is) (at_byte ShortTable 0)) (unknown_fault (first_unknown (named_in is).instances (all_events (instances_in is)))) (chart_fault (instances_in is) (checked (lengths_in is) (rows_in is))) both.0);
+    }
+
+readable : (r : Rooms) (ss : List Sentence) (a : Answer) → read_as r ss ≡ Ok a → Readable ss a
+readable r ss a e = sized_readable r ss a (surveyed ss) refl e
+
+-- the rows in use are those of the chart
+used : {X : Type 0} (z : X) (room n : ℕ) (rows xs : List X) → rows ≡ padded z room xs → n ≡ length xs → take n rows ≡ xs
+used z room n rows xs is long = ap (λ (k : ℕ). take k rows) long ∙ ap (take (length xs)) is ∙ take-append_seam xs _
+
+-- what the tables hold of a text that was read
+pub record InUse (text : List ℕ) (width count : ℕ) (lengths : List ℕ) (events : List Event) (names : List Name) : Type 0 where
+  pub lengths_are : take width lengths ≡ lengths_in (items_of text)
+  pub events_are : take count events ≡ rows_in (items_of text)
+  pub names_are : names ≡ padded no_name 32 (names_of text)
+  pub sound : checked (take width lengths) (take count events) ≡ None
+
+pub in_use : (text : List ℕ) (a : Answer) (t : Tables) → read text ≡ Ok a → t ≡ tables_of greatest (items_of text) → InUse text a.instances a.events t.lengths t.events t.instances
+in_use text a t e is =
+    let k = readable greatest (sentences text) a e in
+    let ns = used 0 32 a.instances t.lengths (lengths_in (items_of text)) (ap (λ (x : Tables). x.lengths) is) k.instances in
+    let es = used no_event 4096 a.events t.events (rows_in (items_of text)) (ap (λ (x : Tables). x.events) is) k.events in
+    record {
+      lengths_are = ns;
+      events_are = es;
+      names_are = ap (λ (x : Tables). x.instances) is;
+      sound = ap (λ (x : List ℕ). checked x (take a.events t.events)) ns ∙ ap (checked (lengths_in (items_of text))) es ∙ k.sound;
+    }
+
+-- rows that are not used are the same as none
+index_unused : {X : Type 0} (z : X) (n i : ℕ) → slice_index_or (replicate n z) i z ≡ z
+index_unused z zero i = refl
+index_unused z (suc n) zero = refl
+index_unused z (suc n) (suc i) = index_unused z n i
+
+index_padded : {X : Type 0} (z : X) (xs : List X) (n i : ℕ) → slice_index_or (xs ++ replicate n z) i z ≡ slice_index_or xs i z
+index_padded z [] n i = index_unused z n i
+index_padded z (x ∷ xs) n zero = refl
+index_padded z (x ∷ xs) n (suc i) = index_padded z xs n i
+
+pub members_padded : (names : List Name) → member_of (padded no_name 32 names) ≡ member_of names
+members_padded names = fun_ext (λ i. ap (member i) (index_padded no_name names _ i))
+
+stuck_padded : (names : List Name) (ring : List ℕ) (j : Judgement) → j ≡ stuck (padded no_name 32 names) ring → j ≡ stuck names ring
+stuck_padded names ring j is = is ∙ ap (λ (f : ℕ → Member). record { word = 2; number = 0; byte = 0; count = length ring; ring = padded no_member 32 (map f ring) }) (members_padded names)
+
+judges_padded : (L : List (List Event)) (names : List Name) (j : Judgement) → Judges L (padded no_name 32 names) j → Judges L names j
+judges_padded L names j (runs_by w full is) = runs_by w full is
+judges_padded L names j (stuck_by ring s is) = stuck_by ring s (stuck_padded names ring j is)
+
+-- what tables hold of a text are its lists and its names
+pub lists_held : (text : List ℕ) (c : Charted) → Holds text c → lists_in c ≡ lists_of text
+lists_held text c h = ap (λ (ns : List ℕ). table_lists ns (take c.count c.events)) h.lengths ∙ ap (table_lists (lengths_in (items_of text))) h.events
+
+pub judges_held : (text : List ℕ) (c : Charted) (j : Judgement) → Holds text c → Judges (lists_in c) c.names j → Judges (lists_of text) (names_of text) j
+judges_held text c j h judges =
+    judges_padded (lists_of text) (names_of text) j (subst₂ (λ (L : List (List Event)) (names : List Name). Judges L names j) (lists_held text c h) h.names judges)

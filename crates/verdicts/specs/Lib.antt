@@ -1,0 +1,5 @@
+pub mod Answers
+pub mod Charts
+pub mod Kept
+pub mod Judging
+pub mod Checking
