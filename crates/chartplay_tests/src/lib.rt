@@ -2,7 +2,11 @@
 #![tactic(auto)]
 
 #[cfg(test)]
+mod chart_texts;
+#[cfg(test)]
 mod examples;
+#[cfg(test)]
+mod log_lines;
 #[cfg(test)]
 mod refused;
 #[cfg(test)]

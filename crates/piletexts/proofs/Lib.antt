@@ -1,3 +1,4 @@
 pub mod Taking
 pub mod Naming
 pub mod Operands
+pub mod Feeding

@@ -1,4 +1,4 @@
--- A table among other lines: the lengths, the events, and then a line `.`.
+-- A table among other lines: the lengths, the events, and then a line `.`; and any text up to such a line.
 use Rattle.std.specs.Prelude.{ℕ, ◌+◌, cond, List, [], ◌∷◌, ◌++◌, length, Some, None, Ok, Err, codes, Option, Result, ◌==◌}
 use Rattle.std.specs.Str.{bytes_eq}
 use Rattle.charts.specs.declared.parts.Event.{Event}
@@ -42,3 +42,13 @@ abbrev pub table_until : ℕ → List (List ℕ) → Result (UpTo Table) ℕ
 table_until n [] = Err (n + 1)
 table_until n (l ∷ ls) =
     cond (bytes_eq l (codes ".")) (Ok (up_to (table [] []) (n + 1) ls)) (table_by (on_line (n + 1) (lengths_on l)) (events_until [] (n + 1) ls))
+
+-- a line and its line feed before the text that was found
+abbrev pub line_before : List ℕ → Result (UpTo (List ℕ)) ℕ → Result (UpTo (List ℕ)) ℕ
+line_before l (Err n) = Err n
+line_before l (Ok u) = Ok (up_to (l ++ (10 ∷ u.found)) u.number u.behind)
+
+-- the text on the lines up to a line `.`, behind n lines
+abbrev pub text_until : ℕ → List (List ℕ) → Result (UpTo (List ℕ)) ℕ
+text_until n [] = Err (n + 1)
+text_until n (l ∷ ls) = cond (bytes_eq l (codes ".")) (Ok (up_to [] (n + 1) ls)) (line_before l (text_until (n + 1) ls))

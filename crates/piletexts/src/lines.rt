@@ -1,7 +1,9 @@
-ghost use Rattle.std.specs.Prelude.{◌≡◌, ◌+◌, ◌^◌, ◌<◌, [], ◌∷◌, length, MatchOption};
+ghost use Rattle.std.specs.Prelude.{◌≡◌, ◌+◌, ◌^◌, ◌<◌, [], ◌∷◌, length, MatchOption, Ok, Err};
 ghost use Rattle.std.specs.Iterator.{item_count};
+ghost use Rattle.piletexts.specs.Blocks.{text_until, up_to};
 ghost use Rattle.piletexts.specs.Lines.{lines_of};
 
+use crate::words::same;
 use tabletexts::cut;
 
 // The lines of a text, with the number of those that were read. A line ends in a line feed, which the last may lack.
@@ -29,6 +31,22 @@ impl<'t> Lines<'t> {
         ensures bound { result < 2 ^ 63 }
     {
         self.number
+    }
+
+    // The text on the lines up to a line `.`, each with its line feed; none where no such line follows, and then all lines are read.
+    pub fn take_text(&mut self) -> Option<&'t [u8]>
+        ensures { MatchOption result ((text_until self.old.number (lines_of self.old.rest.now) ≡ Err (self.new.number + 1)) × (lines_of self.new.rest.now ≡ [])) (λ text. text_until self.old.number (lines_of self.old.rest.now) ≡ Ok (up_to text.now self.new.number (lines_of self.new.rest.now))) }
+    {
+        let text = self.rest;
+        let mut length = 0;
+        // No `for`: it would hold the lines.
+        while let Some(line) = self.next() {
+            if same(line, b".") {
+                return Some(&text[..length]);
+            }
+            length += line.len() + 1;
+        }
+        None
     }
 }
 

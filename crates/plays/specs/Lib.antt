@@ -1,6 +1,10 @@
+pub mod Troubles
+pub mod ChartTexts
 pub mod Turns
+pub mod Logs
 pub mod Plans
 pub mod Scripts
 pub mod Followed
 pub mod Scripted
+pub mod Checked
 pub mod Played

@@ -1,3 +1,5 @@
 pub mod RefusalLines
 pub mod AnswerLines
 pub mod TurnLines
+pub mod TextLines
+pub mod ScriptLines

@@ -1,9 +1,12 @@
-use crate::{reply_line, reply_lines};
-use charts::{Event, Fault, Kind, Peer};
+use crate::{reply_line, reply_lines, text_refusal_line};
+use charts::{Event, Fault, Kind, Peer, Rule};
+use logs::{Cause as LogCause, Refusal as LogRefusal, Verdict as LogVerdict};
+use plays::Log;
 use runs::{Answer, Call, Drove, Ending, Refusal, Turn, Verdict};
 use std::alloc::{AllocError, Global};
 use std::process::Abort;
 use std::test::Fail;
+use words::{Cause, Fault as TextFault};
 
 // Compares the line of an answer, of a call with this buffer.
 fn check_line(
@@ -124,7 +127,7 @@ fn turns_have_their_lines_in_order(rt: HostRuntime) -> Result<(), Fail> {
         turn(heap, Call::Judge, Some(Answer::Judged(Verdict::Runs(3))))?,
         turn(heap, Call::Step(2), Some(Answer::Refused(Refusal::MustWait(1))))?,
     ]?;
-    let lines = reply_lines(heap, turns.as_slice())?;
+    let lines = reply_lines(heap, turns.as_slice(), &[])?;
     assert_eq!(rt;
         lines.as_str(),
         "drove 2 count 2 0\nruns 2 0 1\nrefused 43 1\n"
@@ -132,8 +135,68 @@ fn turns_have_their_lines_in_order(rt: HostRuntime) -> Result<(), Fail> {
     Ok(())
 }
 
+// A log with so many calls before it, that was answered so.
+fn log(
+    heap: Global,
+    after: usize,
+    answer: Option<Result<LogVerdict, LogRefusal>>,
+) -> Result<Log, AllocError> {
+    let bytes = vec![in heap; 7]?;
+    Ok(Log {
+        after,
+        bytes,
+        answer,
+    })
+}
+
+#[test]
+fn logs_have_their_lines_among_those_of_turns(rt: HostRuntime) -> Result<(), Fail> {
+    let heap = rt.alloc();
+    let turns = vec![in heap;
+        turn(heap, Call::Restart, Some(Answer::Restarted))?,
+        turn(
+            heap,
+            Call::Step(0),
+            Some(Answer::Refused(Refusal::NoInstance))
+        )?,
+        turn(heap, Call::Latest(0, 0), Some(Answer::Place(5)))?,
+    ]?;
+    let refusal = LogRefusal::Record(4, LogCause::MustWait(9));
+    let logs = vec![in heap;
+        log(heap, 0, Some(Ok(LogVerdict::Full)))?,
+        // not checked
+        log(heap, 0, None)?,
+        log(heap, 2, Some(Err(refusal)))?,
+        log(heap, 2, Some(Ok(LogVerdict::Part)))?,
+        log(heap, 3, Some(Err(LogRefusal::Record(0, LogCause::CutShort))))?,
+    ]?;
+    let lines = reply_lines(heap, turns.as_slice(), logs.as_slice())?;
+    assert_eq!(rt;
+        lines.as_str(),
+        "full\nrestarted\nrefused 41\nrefused 43 4 9\npart\nlatest 5\nrefused 51 0\n"
+    );
+    Ok(())
+}
+
 #[test]
 fn no_turn_has_no_line(rt: HostRuntime) -> Result<(), Fail> {
-    assert_eq!(rt; reply_lines(rt.alloc(), &[])?.as_str(), "");
+    assert_eq!(rt; reply_lines(rt.alloc(), &[], &[])?.as_str(), "");
+    Ok(())
+}
+
+#[test]
+fn refused_texts_tell_a_number_and_a_byte(rt: HostRuntime) -> Result<(), Fail> {
+    let cases = [
+        (Cause::BadByte, 0, "refused 21 at 0"),
+        (Cause::PeerUnknown, 4095, "refused 26 at 4095"),
+        (Cause::AfterEnd, 10, "refused 28 at 10"),
+        (Cause::Chart(Rule::Lengths), 0, "refused 11 at 0"),
+        (Cause::Chart(Rule::Repeated), 41, "refused 17 at 41"),
+        (Cause::Chart(Rule::Unmatched), 65536, "refused 18 at 65536"),
+    ];
+    for (cause, byte, line) in cases {
+        let text = text_refusal_line(rt.alloc(), TextFault::at(cause, byte))?;
+        assert_eq!(rt; text.as_str(), line);
+    }
     Ok(())
 }

@@ -1,4 +1,5 @@
 pub mod Operands
 pub mod MediumLines
 pub mod Calls
+pub mod Hex
 pub mod Statements

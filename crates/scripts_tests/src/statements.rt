@@ -1,6 +1,7 @@
 use piletexts::Command;
 use runs::Call;
-use scripts::{MediumCommand, Statement, read_statement};
+use scripts::{MediumCommand, Statement, hex_bytes, read_statement};
+use std::test::Fail;
 
 #[test]
 fn pile_commands_are_read(rt: HostRuntime) {
@@ -12,6 +13,15 @@ fn pile_commands_are_read(rt: HostRuntime) {
     ];
     for (line, command) in lines {
         assert_eq!(rt; read_statement(line), Some(Statement::Pile(command)));
+    }
+}
+
+#[test]
+fn a_chart_text_is_announced(rt: HostRuntime) {
+    assert_eq!(rt; read_statement(b"text"), Some(Statement::Text));
+    let lines: [&[u8]; 6] = [b"text ", b" text", b"Text", b"texts", b"tex", b"text 1"];
+    for line in lines {
+        assert_eq!(rt; read_statement(line), None);
     }
 }
 
@@ -47,6 +57,66 @@ fn calls_are_read(rt: HostRuntime) {
     for (line, call, room) in lines {
         assert_eq!(rt; read_statement(line), Some(Statement::Call(call, room)));
     }
+}
+
+#[test]
+fn logs_are_read(rt: HostRuntime) {
+    let lines: [(&[u8], &[u8]); 5] = [
+        (b"log", b""),
+        (b"log 00", b"00"),
+        (b"log 0123456789", b"0123456789"),
+        (b"log abcdefABCDEF", b"abcdefABCDEF"),
+        (b"log fFaA90", b"fFaA90"),
+    ];
+    for (line, digits) in lines {
+        assert_eq!(rt; read_statement(line), Some(Statement::Log(digits)));
+    }
+}
+
+#[test]
+fn what_is_no_log(rt: HostRuntime) {
+    let lines: [&[u8]; 16] = [
+        // not an even number of digits, or none behind a space
+        b"log 0",
+        b"log 012",
+        b"log ",
+        // bytes beside the digits
+        b"log 0g",
+        b"log G0",
+        b"log /0",
+        b"log 0:",
+        b"log @0",
+        b"log 0`",
+        b"log 0x",
+        b"log -1",
+        // spaces, and another word
+        b"log  00",
+        b"log 00 ",
+        b"log 00 00",
+        b"log00",
+        b"Log 00",
+    ];
+    for line in lines {
+        assert_eq!(rt; read_statement(line), None);
+    }
+}
+
+#[test]
+fn digits_write_bytes(rt: HostRuntime) -> Result<(), Fail> {
+    let cases: [(&[u8], &[u8]); 6] = [
+        (b"", &[]),
+        (b"00", &[0]),
+        (b"0f10Ff", &[15, 16, 255]),
+        (b"09aAfF9a", &[9, 170, 255, 154]),
+        // no bytes from what is no digit on
+        (b"012", &[1]),
+        (b"01x203", &[1]),
+    ];
+    for (digits, bytes) in cases {
+        let read = hex_bytes(rt.alloc(), digits)?;
+        assert_eq!(rt; read.as_slice(), bytes);
+    }
+    Ok(())
 }
 
 #[test]

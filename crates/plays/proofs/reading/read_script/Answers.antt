@@ -1,6 +1,8 @@
 use Rattle.std.proofs.Common.{◌+◌, length, Err, ap, ◌∙◌, arith, rules, true-eqb, false-eqb}
 use Rattle.piletexts.specs.Lines.{lines_of}
 use Rattle.piles.specs.Applied.{standing}
+use Rattle.scripts.specs.Statements.{said}
+use Rattle.plays.specs.Troubles.{at_line}
 use Rattle.plays.specs.Plans.{plan_of}
 use Rattle.plays.specs.Followed.{state}
 use Rattle.plays.specs.Scripts.{script_of}
@@ -14,7 +16,7 @@ loop-line-init c r x = writes_it c.args.text.now r (search rules)
 pub returns-in_default-read_statement : goal.returns-in_default-read_statement
 returns-in_default-read_statement c =
     let took = c.in-Some.ensures.steps in
-    c.loop-line.invariant (Err c.number.result)
+    c.loop-line.invariant (Err (at_line c.number.result))
     (line_unknown (plan_of c.loop-line.draft) c.loop-line.draft.pile c.loop-line.lines.number c.next.new.self.number
     (lines_of c.loop-line.lines.rest.now) (lines_of c.next.new.self.rest.now) c.in-Some.line.now took.0 took.1
     c.number.result c.number.ensures.value (omega (arith, false-eqb _ 0 c.if-not-is_empty.ensures)) c.in_default-read_statement.ensures.value)
@@ -22,7 +24,7 @@ returns-in_default-read_statement c =
 pub loop-line-smaller-in-Continue-1 : goal.loop-line-smaller-in-Continue-1
 loop-line-smaller-in-Continue-1 c =
     let took = c.in-Some.ensures.steps in
-    let fewer = followed_leaves c.in-Some-read_statement.statement (plan_of c.loop-line.draft)
+    let fewer = followed_leaves (said c.in-Some-read_statement.statement) (plan_of c.loop-line.draft)
     (standing c.loop-line.draft.pile c.next.new.self.number (lines_of c.next.new.self.rest.now))
     (state (plan_of c.follow.new.self) (standing c.follow.new.self.pile c.follow.new.lines.number (lines_of c.follow.new.lines.rest.now)))
     c.in_ok-follow.ensures in
@@ -34,7 +36,7 @@ loop-line-preserved-in-Continue-1 c r x =
     c.loop-line.invariant r
     (line_followed (plan_of c.loop-line.draft) c.loop-line.draft.pile c.loop-line.lines.number c.next.new.self.number
     (lines_of c.loop-line.lines.rest.now) (lines_of c.next.new.self.rest.now) c.in-Some.line.now took.0 took.1
-    c.in-Some-read_statement.statement c.in-Some-read_statement.ensures.value
+    (said c.in-Some-read_statement.statement) c.in-Some-read_statement.ensures.value
     (state (plan_of c.follow.new.self) (standing c.follow.new.self.pile c.follow.new.lines.number (lines_of c.follow.new.lines.rest.now)))
     c.in_ok-follow.ensures r x)
 
@@ -43,7 +45,7 @@ returns-in_err-follow c =
     let took = c.in-Some.ensures.steps in
     line_told (plan_of c.loop-line.draft) c.loop-line.draft.pile c.loop-line.lines.number c.next.new.self.number
     (lines_of c.loop-line.lines.rest.now) (lines_of c.next.new.self.rest.now) c.in-Some.line.now took.0 took.1
-    c.in-Some-read_statement.statement c.in-Some-read_statement.ensures.value
+    (said c.in-Some-read_statement.statement) c.in-Some-read_statement.ensures.value
     script_of c.args.text.now
     (state (plan_of c.follow.new.self) (standing c.follow.new.self.pile c.follow.new.lines.number (lines_of c.follow.new.lines.rest.now)))
     c.in_err-follow.field-0.0 c.from_residual.result c.loop-line.invariant c.in_err-follow.ensures (search rules)
