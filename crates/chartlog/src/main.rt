@@ -10,15 +10,10 @@ use lines::Listing;
 use std::env;
 use std::fs::File;
 use std::io::Read;
-use texts::{Name, read};
+use texts::{NO_NAME, read};
 
 // No more bytes of the chart text are read.
 const TEXT_ROOM: usize = 65_536;
-
-const NO_NAME: Name = Name {
-    start: 0,
-    length: 0,
-};
 
 fn show(rt: &HostRuntime, text: &[u8], log: &[u8]) -> anyhow::Result<()> {
     let mut lengths = [0; MOST_INSTANCES];

@@ -1,8 +1,8 @@
 -- A text that is read has a listing, of a chart without a fault.
-use Rattle.std.proofs.Common.{◌≡◌, ℕ, ◌+◌, ◌-◌, ◌≤◌, true, ◌&&◌, nat_le, List, [], ◌∷◌, length, map, take, replicate, Some, None, Option, Ok, Err, Result, refl, sym, ap, ap₂, ◌∙◌, subst, arith}
+use Rattle.std.proofs.Common.{◌≡◌, ℕ, ◌+◌, ◌≤◌, true, ◌&&◌, nat_le, List, [], ◌∷◌, length, map, take, Some, None, Option, Ok, Err, Result, refl, sym, ap, ap₂, ◌∙◌, subst, arith}
 use Rattle.std.specs.List.{list_all}
 use Rattle.std.proofs.lemmas.Bool.{and_from, le-leb}
-use Rattle.std.proofs.lemmas.List.{length-map, take_at}
+use Rattle.std.proofs.lemmas.List.{length-map}
 use Rattle.charts.specs.declared.parts.Event.{Event}
 use Rattle.charts.specs.Events.{no_event}
 use Rattle.checks.specs.Cut.{in_one}
@@ -24,7 +24,7 @@ use Rattle.texts.specs.Names.{instance_names, message_names, action_names}
 use Rattle.texts.specs.Charted.{lists_of}
 use Rattle.texts.specs.Static.{Static}
 use Rattle.texts.specs.Builds.{StandFor, Builds, bytes_at}
-use Rattle.texts.proofs.Padding.{padded_few}
+use Rattle.texts.proofs.Padding.{padded_few, take_rows}
 use Rattle.texts.proofs.Sized.{Sized, sized_text}
 use Rattle.texts.proofs.Bracketed.{instances_once}
 use Rattle.texts.proofs.Worded.{Each}
@@ -35,10 +35,6 @@ use Rattle.lines.specs.declared.listing.Listing.{Listing}
 use Rattle.lines.specs.Names.{stands_in, are_names}
 use Rattle.lines.specs.Listings.{has_rows, HoldsRows}
 use Rattle.judged.specs.Shown.{ShowsVerdict, ShowsRead, Shows}
-
--- the rows in use of a table
-pub take_padded : {T : Type 0} (z : T) (r n : ℕ) (xs : List T) → n ≡ length xs → take n (padded z r xs) ≡ xs
-take_padded z r n xs is = take_at xs (replicate (r - length xs) z) n (sym is)
 
 module _ (text : List ℕ) where
   all_stand : (ns : List Placed) → Each (StandsIn text) ns → list_all (stands_in (length text)) (map row_of ns) ≡ true
@@ -55,7 +51,7 @@ module _ (text : List ℕ) where
   named_rows ns r n table is few same h =
       and_from (nat_le n (length table)) (list_all (stands_in (length text)) (take n table)) (le-leb n (length table) few)
       (ap (λ (xs : List Name). list_all (stands_in (length text)) (take n xs)) is
-      ∙ ap (list_all (stands_in (length text))) (take_padded no_name r n (map row_of ns) (same ∙ sym (length-map ns row_of))) ∙ all_stand ns h)
+      ∙ ap (list_all (stands_in (length text))) (take_rows no_name r n (map row_of ns) (padded no_name r (map row_of ns)) refl (same ∙ sym (length-map ns row_of))) ∙ all_stand ns h)
 
   spelled_few : (table : List Name) (names : List (List ℕ)) (n : ℕ) → StandFor text table names → n ≡ length names → n ≤ length table
   spelled_few table names n s is = let f = padded_few no_name table s.rows s.table_is in let m = ap length s.names_are in let l = length-map s.rows (bytes_at text) in omega arith
@@ -138,12 +134,12 @@ module _ (text : List ℕ) (c : ChartText) (a : Answer) (t : Tables) (l : Listin
   pub lengths_held : l.table.lengths.now ≡ map length (lists_of c)
   lengths_held =
       held.lengths_used ∙ ap (take r.instances) b.lengths
-      ∙ take_padded 0 (length t.lengths) r.instances (map length (lists_of c)) (ap (λ (y : Answer). y.instances) answered_by ∙ b.instance_count ∙ sym (length-map (lists_of c) length))
+      ∙ take_rows 0 (length t.lengths) r.instances (map length (lists_of c)) (padded 0 (length t.lengths) (map length (lists_of c))) refl (ap (λ (y : Answer). y.instances) answered_by ∙ b.instance_count ∙ sym (length-map (lists_of c) length))
 
   pub events_held : l.table.events.now ≡ in_one (lists_of c)
   events_held =
       held.events_used ∙ ap (take r.events) b.events
-      ∙ take_padded no_event (length t.events) r.events (in_one (lists_of c)) (ap (λ (y : Answer). y.events) answered_by ∙ b.event_count ∙ sym (length_in_one (lists_of c)))
+      ∙ take_rows no_event (length t.events) r.events (in_one (lists_of c)) (padded no_event (length t.events) (in_one (lists_of c))) refl (ap (λ (y : Answer). y.events) answered_by ∙ b.event_count ∙ sym (length_in_one (lists_of c)))
 
   pub faultless_held : checked l.table.lengths.now l.table.events.now ≡ None
   faultless_held = ap₂ checked lengths_held events_held ∙ b.faultless

@@ -30,6 +30,7 @@ use Rattle.texts.specs.Names.{place_in, message_of, action_of, instance_names, m
 use Rattle.texts.specs.Charted.{event_in, lists_of}
 use Rattle.texts.specs.Static.{Static}
 use Rattle.texts.specs.Builds.{bytes_at, StandFor, Builds}
+use Rattle.texts.proofs.Padding.{take_rows}
 use Rattle.texts.proofs.Taking.{takes_ok, takes_err}
 use Rattle.lines.specs.declared.listing.Listing.{Listing}
 use Rattle.lines.specs.Names.{name_at}
@@ -37,7 +38,7 @@ use Rattle.lines.specs.Listings.{HoldsRows}
 use Rattle.lines.specs.Lines.{instance_name, event_name, kind_word, heading_line, event_line, verdict_line}
 use Rattle.judged.specs.Shown.{chart_in, step_lines, order_lines, ListsText, ShowsRead, Shows}
 use Rattle.judged.specs.Told.{event_words, chart_line, step_line, TellsSteps, none, step, TellsText, runs, gets_stuck, refused}
-use Rattle.judged.proofs.Holding.{take_padded, lengths_held, events_held}
+use Rattle.judged.proofs.Holding.{lengths_held, events_held}
 use Rattle.judged.proofs.Naming.{stands_at, has_own, once_has, among_all, row_named, Said, said}
 use Rattle.judged.proofs.Fitting.{size_said, room_enough}
 
@@ -75,7 +76,7 @@ below_has (suc n) j l =
 rows_used : (text : List ℕ) (table used : List Name) (names : List (List ℕ)) (n : ℕ) → StandFor text table names → used ≡ take n table → n ≡ length names → map (bytes_at text) used ≡ names
 rows_used text table used names n s is count =
     ap (map (bytes_at text))
-    (is ∙ ap (take n) s.table_is ∙ take_padded no_name (length table) n s.rows (count ∙ sym (ap length s.names_are) ∙ length-map s.rows (bytes_at text)))
+    (is ∙ take_rows no_name (length table) n s.rows table s.table_is (count ∙ sym (ap length s.names_are) ∙ length-map s.rows (bytes_at text)))
     ∙ s.names_are
 
 module _ (text : List ℕ) (c : ChartText) (a : Answer) (t : Tables) (l : Listing) (b : Builds text c a t) (of_text : l.reading.text.now ≡ text) (answer_is : answer_in l.reading ≡ a) (held : HoldsRows l.reading t.lengths t.events t.instances t.messages t.actions l) where

@@ -10,13 +10,8 @@ use crate::listed::listed_lines;
 use charts::{Event, MOST_EVENTS, MOST_INSTANCES, NO_EVENT};
 use lines::Listing;
 use std::alloc::{AllocError, Global};
-use texts::{Name, Reading, read};
+use texts::{NO_NAME, Name, Reading, read};
 use words::Fault;
-
-const NO_NAME: Name = Name {
-    start: 0,
-    length: 0,
-};
 
 // The lines of a text that was read into tables.
 fn reading_lines(

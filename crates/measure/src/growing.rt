@@ -6,12 +6,7 @@ use runs::{Run, Verdict};
 use std::alloc::{AllocError, Global};
 use std::time::Instant;
 use tables::Table;
-use texts::{Name, Reading, read};
-
-const NO_NAME: Name = Name {
-    start: 0,
-    length: 0,
-};
+use texts::{NO_NAME, Reading, read};
 
 // The text of a ring of instances: each outputs so many messages to the next, and inputs as many from the one before.
 fn ring_text(heap: Global, instances: u16, messages: u16) -> Result<String, AllocError> {

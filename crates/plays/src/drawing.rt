@@ -6,13 +6,7 @@ use charts::{MOST_EVENTS, MOST_INSTANCES, NO_EVENT};
 use piles::Pile;
 use std::alloc::Global;
 use tables::Table;
-use texts::{Name, read};
-
-// A row of a table of names that is not used.
-const NO_NAME: Name = Name {
-    start: 0,
-    length: 0,
-};
+use texts::{NO_NAME, read};
 
 // The chart of a text, put on top of the pile, or the text's fault. The tables are those of the greatest chart.
 pub(crate) fn push_chart(pile: &mut Pile, heap: Global, text: &[u8]) -> Result<(), Unplayed>

@@ -19,3 +19,4 @@ pub mod Taking
 pub mod Broken
 pub mod Placing
 pub mod Samples
+pub mod Readable

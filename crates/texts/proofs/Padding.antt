@@ -1,5 +1,6 @@
 -- Rows that are written one after the other.
-use Rattle.std.proofs.Common.{◌≡◌, ℕ, suc, ◌+◌, ◌-◌, ◌<◌, ◌≤◌, List, [], ◌∷◌, ◌++◌, length, replicate, slice_set, refl, sym, ap, ◌∙◌, arith}
+use Rattle.std.proofs.Common.{◌≡◌, ℕ, suc, ◌+◌, ◌-◌, ◌<◌, ◌≤◌, List, [], ◌∷◌, ◌++◌, length, take, replicate, slice_set, refl, sym, ap, ◌∙◌, arith}
+use Rattle.std.proofs.Math.Seq.{take-append_seam}
 use Rattle.std.proofs.lemmas.List.{length-append, length-set}
 use Rattle.texts.specs.Rows.{padded}
 
@@ -22,6 +23,10 @@ module _ {T : Type 0} (z : T) where
   -- no more rows than the table has
   pub padded_few : (rows xs : List T) → rows ≡ padded z (length rows) xs → length xs ≤ length rows
   padded_few rows xs is = let l = ap length is in let a = length-append xs (replicate (length rows - length xs) z) in omega arith
+
+  -- the rows in use
+  pub take_rows : (n k : ℕ) (xs table : List T) → table ≡ padded z n xs → k ≡ length xs → take k table ≡ xs
+  take_rows n k xs table is l = ap (λ (t : List T). take k t) is ∙ ap (λ (j : ℕ). take j (padded z n xs)) l ∙ take-append_seam xs (replicate (n - length xs) z)
 
   -- the next row of a table
   pub padded_next : (table xs : List T) (n : ℕ) (x : T) → table ≡ padded z (length table) xs → n ≡ length xs → n < length table →

@@ -1,5 +1,5 @@
 -- The tables of a text that was read to its end.
-use Rattle.std.proofs.Common.{◌≡◌, ℕ, ◌-◌, ◌≤◌, List, [], ◌∷◌, ◌++◌, length, map, take, replicate, Some, None, Ok, Err, Result, refl, sym, ap, ◌∙◌, subst, arith}
+use Rattle.std.proofs.Common.{◌≡◌, ℕ, ◌≤◌, List, length, map, take, Some, None, Ok, Err, Result, sym, ap, ◌∙◌, subst, arith}
 use Rattle.std.proofs.lemmas.List.{length-map}
 use Rattle.charts.specs.declared.parts.Event.{Event}
 use Rattle.charts.specs.Events.{no_event}
@@ -21,19 +21,10 @@ use Rattle.texts.specs.Resolving.{IsUnknown}
 use Rattle.texts.specs.Filled.{Fills}
 use Rattle.texts.specs.Checking.{fault_in}
 use Rattle.texts.specs.Readings.{Rooms, Tables, tables, lengths_in, rows_in, tables_of, answer, read_as}
-use Rattle.texts.proofs.Padding.{padded_few}
+use Rattle.texts.proofs.Padding.{padded_few, take_rows}
 use Rattle.texts.proofs.Sized.{Sized}
 use Rattle.texts.proofs.Bracketed.{whole_bracketed, lengths_same, rows_same}
 use Rattle.texts.proofs.Answering.{as_long, as_many, refused_peer, refused_chart, read_whole}
-
--- the rows in use
-module _ {T : Type 0} where
-  take_first : (xs ys : List T) → take (length xs) (xs ++ ys) ≡ xs
-  take_first [] ys = refl
-  take_first (x ∷ xs) ys = ap (λ (zs : List T). x ∷ zs) (take_first xs ys)
-
-  take_rows : (z : T) (n k : ℕ) (xs table : List T) → table ≡ padded z n xs → k ≡ length xs → take k table ≡ xs
-  take_rows z n k xs table is l = ap (λ (t : List T). take k t) is ∙ ap (λ (j : ℕ). take j (padded z n xs)) l ∙ take_first xs (replicate (n - length xs) z)
 
 -- names have as many rows as they are
 names_fit : (numbers : Numbers) (table : List Name) (ns : List Placed) (room : ℕ) → Lists numbers table ns → length table ≡ room → length ns ≤ room

@@ -14,4 +14,4 @@ mod starts;
 
 pub use reader::read;
 pub use reading::Reading;
-pub use rows::Name;
+pub use rows::{NO_NAME, Name};

@@ -12,7 +12,7 @@ pub struct Name {
 }
 
 // A row that is not used.
-pub(crate) const NO_NAME: Name = Name {
+pub const NO_NAME: Name = Name {
     start: 0,
     length: 0,
 };

@@ -1,6 +1,6 @@
 use charts::Event;
 use std::process::Abort;
-use texts::{Name, read};
+use texts::{NO_NAME, Name, read};
 
 const SOME_EVENT: Event = Event {
     kind: 7,
@@ -17,11 +17,6 @@ const NO_EVENT: Event = Event {
     kind: 0,
     peer: 0,
     number: 0,
-};
-
-const NO_NAME: Name = Name {
-    start: 0,
-    length: 0,
 };
 
 // The text is refused with this number at this byte, and the tables are zeros then.

@@ -1,16 +1,11 @@
 use charts::{Chart, Event};
 use tables::Table;
-use texts::{Name, read};
+use texts::{NO_NAME, Name, read};
 
 const NO_EVENT: Event = Event {
     kind: 0,
     peer: 0,
     number: 0,
-};
-
-const NO_NAME: Name = Name {
-    start: 0,
-    length: 0,
 };
 
 fn event(kind: u8, peer: u8, number: u16) -> Event {

@@ -1,26 +1,16 @@
 -- What a text that is read says of its tables.
-use Rattle.std.proofs.Common.{◌≡◌, ℕ, zero, suc, List, [], ◌∷◌, ◌++◌, length, replicate, take, map, slice_index_or, Some, None, Option, Ok, Err, Result, refl, sym, ap, ◌∙◌, subst₂}
+use Rattle.std.proofs.Common.{◌≡◌, ℕ, zero, suc, List, [], ◌∷◌, ◌++◌, length, replicate, take, map, slice_index_or, None, Ok, refl, ap, ◌∙◌, subst₂}
 use mathlib.Core.Path.{fun_ext}
-use Rattle.std.proofs.Math.Seq.{take-append_seam}
 use Rattle.charts.specs.declared.parts.Event.{Event}
 use Rattle.charts.specs.Events.{no_event}
-use Rattle.charts.specs.declared.faults.Fault.{Fault as ChartFault}
-use Rattle.checks.specs.Choice.{or_else, unless}
 use Rattle.checks.specs.Checked.{checked}
-use Rattle.words.specs.declared.faults.Fault.{Fault}
-use Rattle.words.specs.declared.faults.Cause.TheVariants.{ShortTable}
-use Rattle.words.specs.Sentences.{Sentence, sentences}
-use Rattle.sentences.specs.Wants.{at_byte}
-use Rattle.items.specs.Instances.{InstanceWords, instances_in}
-use Rattle.items.specs.Surveys.{Size, items_in, surveyed}
+use Rattle.words.specs.Sentences.{sentences}
 use Rattle.tables.specs.TableLists.{table_lists}
 use Rattle.texts.specs.declared.rows.Name.{Name}
 use Rattle.texts.specs.Rows.{padded, no_name}
-use Rattle.texts.specs.Directories.{named_in}
-use Rattle.texts.specs.Drafts.{first_unknown}
-use Rattle.texts.specs.Readings.{Rooms, Answer, Tables, tables_of, all_events, lengths_in, rows_in, enough, unknown_fault, chart_fault, refusal, answer, unless_fault, read_sized, read_as, greatest}
-use Rattle.texts.proofs.Sized.{sized_text}
-use Rattle.texts.proofs.Answering.{as_long, as_many}
+use Rattle.texts.specs.Readings.{Answer, Tables, tables_of, lengths_in, rows_in, greatest}
+use Rattle.texts.proofs.Padding.{take_rows}
+use Rattle.texts.proofs.Readable.{readable}
 use Rattle.verdicts.specs.declared.charted.Charted.{Charted}
 use Rattle.verdicts.specs.declared.answers.Judgement.{Judgement}
 use Rattle.verdicts.specs.declared.answers.Member.{Member}
@@ -28,47 +18,6 @@ use Rattle.verdicts.specs.Answers.{no_member, member, member_of, stuck}
 use Rattle.verdicts.specs.Charts.{Holds, read, lists_of, names_of, items_of}
 use Rattle.verdicts.specs.Kept.{lists_in}
 use Rattle.verdicts.specs.Judging.{Judges, runs_by, stuck_by}
-
--- the last of three checks passes where all do
-last_passes : {X : Type 0} (x y z : Option X) → or_else x (or_else y (or_else z None)) ≡ None → z ≡ None
-last_passes None None None e = refl
-last_passes None None (Some z) e = cc
-last_passes None (Some y) z e = cc
-last_passes (Some x) y z e = cc
-
-no_fault : (ns : List InstanceWords) (f : Option ChartFault) → chart_fault ns f ≡ None → f ≡ None
-no_fault ns None e = refl
-no_fault ns (Some f) e = cc
-
-answered_none : (f : Option Fault) (a b : Answer) → unless_fault f a ≡ Ok b → (f ≡ None) × (a ≡ b)
-answered_none None a b e = (refl, cc)
-answered_none (Some f) a b e = cc
-
--- what is known of the chart of a text that was read
-record Readable (ss : List Sentence) (a : Answer) : Type 0 where
-  pub instances : a.instances ≡ length (lengths_in (items_in ss))
-  pub events : a.events ≡ length (rows_in (items_in ss))
-  pub sound : checked (lengths_in (items_in ss)) (rows_in (items_in ss)) ≡ None
-
-sized_readable : (r : Rooms) (ss : List Sentence) (a : Answer) (size : Result Size Fault) → surveyed ss ≡ size → read_sized r (items_in ss) size ≡ Ok a → Readable ss a
-sized_readable r ss a (Err f) s e = cc
-sized_readable r ss a (Ok size) s e =
-    let is = items_in ss in
-    let both = answered_none (refusal r is) (answer size (named_in is)) a e in
-    let whole = sized_text ss size s in
-    record {
-      instances = sym (ap (λ (x : Answer). x.instances) both.1) ∙ sym (as_long ss size s whole r);
-      events = sym (ap (λ (x : Answer). x.events) both.1) ∙ sym (as_many ss size s whole r);
-      sound = no_fault (instances_in is) (checked (lengths_in is) (rows_in is))
-          (last_passes (unless (enough r is) (at_byte ShortTable 0)) (unknown_fault (first_unknown (named_in is).instances (all_events (instances_in is)))) (chart_fault (instances_in is) (checked (lengths_in is) (rows_in is))) both.0);
-    }
-
-readable : (r : Rooms) (ss : List Sentence) (a : Answer) → read_as r ss ≡ Ok a → Readable ss a
-readable r ss a e = sized_readable r ss a (surveyed ss) refl e
-
--- the rows in use are those of the chart
-used : {X : Type 0} (z : X) (room n : ℕ) (rows xs : List X) → rows ≡ padded z room xs → n ≡ length xs → take n rows ≡ xs
-used z room n rows xs is long = ap (λ (k : ℕ). take k rows) long ∙ ap (take (length xs)) is ∙ take-append_seam xs _
 
 -- what the tables hold of a text that was read
 pub record InUse (text : List ℕ) (width count : ℕ) (lengths : List ℕ) (events : List Event) (names : List Name) : Type 0 where
@@ -80,8 +29,8 @@ pub record InUse (text : List ℕ) (width count : ℕ) (lengths : List ℕ) (eve
 pub in_use : (text : List ℕ) (a : Answer) (t : Tables) → read text ≡ Ok a → t ≡ tables_of greatest (items_of text) → InUse text a.instances a.events t.lengths t.events t.instances
 in_use text a t e is =
     let k = readable greatest (sentences text) a e in
-    let ns = used 0 32 a.instances t.lengths (lengths_in (items_of text)) (ap (λ (x : Tables). x.lengths) is) k.instances in
-    let es = used no_event 4096 a.events t.events (rows_in (items_of text)) (ap (λ (x : Tables). x.events) is) k.events in
+    let ns = take_rows 0 32 a.instances (lengths_in (items_of text)) t.lengths (ap (λ (x : Tables). x.lengths) is) k.instances in
+    let es = take_rows no_event 4096 a.events (rows_in (items_of text)) t.events (ap (λ (x : Tables). x.events) is) k.events in
     record {
       lengths_are = ns;
       events_are = es;

@@ -4,14 +4,8 @@ ghost use Rattle.verdicts.specs.Charts.{ReadsChart};
 use crate::charted::Charted;
 use charts::{MOST_EVENTS, MOST_INSTANCES, NO_EVENT};
 use tables::Table;
-use texts::{Name, read};
+use texts::{NO_NAME, read};
 use words::Fault;
-
-// A row of names that is not used.
-const NO_NAME: Name = Name {
-    start: 0,
-    length: 0,
-};
 
 impl Charted {
     // The chart of a text, or the text's fault.
