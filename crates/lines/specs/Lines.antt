@@ -9,7 +9,7 @@ use Rattle.charts.specs.Texts.{spaced}
 use Rattle.tables.specs.TableLists.{table_lists}
 use Rattle.listings.specs.Report.{line}
 use Rattle.words.specs.declared.faults.Fault.{Fault}
-use Rattle.words.specs.Faults.{number_of}
+use Rattle.words.specs.Refusals.{refusal_text}
 use Rattle.runs.specs.declared.parts.Verdict.{Verdict}
 use Rattle.runs.specs.declared.parts.Verdict.TheVariants.{Runs, Stuck}
 use Rattle.lines.specs.declared.listing.Listing.{Listing}
@@ -50,4 +50,4 @@ verdict_line l (Stuck n) ring = line (spaced (codes "stuck" ∷ map (instance_na
 
 -- the number of a fault for which a chart text is refused, and its byte
 abbrev pub refusal_line : Fault → List ℕ
-refusal_line f = line (spaced (codes "refused" ∷ decimal (number_of f.cause) ∷ codes "at" ∷ decimal f.byte ∷ []))
+refusal_line f = line (refusal_text f)
