@@ -7,7 +7,7 @@ use Rattle.grammar.specs.Pieces.{sentence_pieces, chart_sentences}
 use Rattle.grammar.specs.Spelling.{Spells}
 use Rattle.grammar.specs.Writing.{Writes}
 use Rattle.grammar.specs.Charts.{chart_by}
-use Rattle.grammar.specs.Exact.{items_after, Reads, Exact}
+use Rattle.grammar.specs.Exact.{items_after, Reads, EveryText}
 use Rattle.grammar.proofs.Scanned.{spells_lexed}
 use Rattle.grammar.proofs.Spelled.{lexed_spells}
 use Rattle.grammar.proofs.Saying.{Says, says_lexed, lexed_says}
@@ -41,7 +41,7 @@ unique text c d wc wd =
     let same : rc.title ≡ rd.title = (let e = sym rc.titled ∙ rd.titled in cc) in
     rc.chart ∙ ap (λ (t : Placed). chart_by t (items_after text).items) same ∙ sym rd.chart
 
-pub exact : (text : List ℕ) → Exact text
+pub exact : EveryText
 exact text =
     record {
       sound = λ c r. subst (Writes text) (sym r.chart) (sound text r.title r.titled r.ended);

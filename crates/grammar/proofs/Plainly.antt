@@ -6,8 +6,8 @@ use Rattle.std.proofs.lemmas.List.Folds.{list_all-append}
 use Rattle.grammar.specs.Texts.{EventText, outputs, inputs, acts, InstanceText, ChartText}
 use Rattle.grammar.specs.Pieces.{Piece, word, semicolon, peer_word, event_sentence, instance_sentences, chart_sentences, sentence_pieces}
 use Rattle.grammar.specs.Spelling.{is_word, ends_word, Spells, nothing, then_semicolon, then_word}
-use Rattle.grammar.specs.Writing.{names_of_peer, names_of_event, names_of_instance, names_of_chart, Names, Writes}
-use Rattle.grammar.specs.Plain.{plain_words, plain_sentences, plain_text}
+use Rattle.grammar.specs.Writing.{names_of_peer, names_of_event, names_of_instance, names_of_chart}
+use Rattle.grammar.specs.Plain.{plain_words, plain_sentences, EveryChart}
 
 -- a space or a semicolon follows each word
 ends : (ws : List (List ℕ)) (rest : List ℕ) → ends_word (plain_words ws ++ (59 ∷ rest)) ≡ true
@@ -71,5 +71,5 @@ chart_words c h =
     (both (list_all is_word) (flat_map instance_sentences c.instances) ((codes "endmsc" ∷ []) ∷ []) (instances_words c.instances a.1) refl)
 
 -- the plain text of a chart writes it, where its names are words but none of the grammar
-pub plain_writes : (c : ChartText) → list_all is_word (names_of_chart c) ≡ true → Names c → Writes (plain_text c) c
+pub plain_writes : EveryChart
 plain_writes c words named = record { spelled = sentences_spelled (chart_sentences c) (chart_words c words); named = named }

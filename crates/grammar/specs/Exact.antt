@@ -24,3 +24,7 @@ pub record Exact (text : List ℕ) : Type 0 where
   pub sound : (c : ChartText) → Reads text c → Writes text c
   pub complete : (c : ChartText) → Writes text c → Reads text c
   pub unique : (c d : ChartText) → Writes text c → Writes text d → c ≡ d
+
+-- so does every text
+abbrev pub EveryText : Type 0
+EveryText = (text : List ℕ) → Exact text

@@ -24,13 +24,12 @@ pub record Whole (P : List ℕ → ℕ → Type 0) (L : List (List Event)) (h : 
   pub order : Steps P h
   pub done : (i : ℕ) → pos h i ≡ count_of L i
 
--- w is the one lowest-first drive after h to an end; steps that do every list exist exactly where it ends in such
+-- w is the one lowest-first drive after h to an end, and does every list where some steps do
 pub record DriveTells (P : List ℕ → ℕ → Type 0) (L : List (List Event)) (h w : List ℕ) : Type 0 where
   pub lowest : LowestFirst P h w
   pub ended : AtEnd P (h ++ w)
   pub only : (v : List ℕ) → LowestFirst P h v → AtEnd P (h ++ v) → v ≡ w
   pub reached : (f : List ℕ) → Whole P L f → Whole P L (h ++ w)
-  pub exists : Whole P L (h ++ w) → (f : List ℕ) × Whole P L f
 
 -- n is the latest place of event k of instance i after h
 pub record LatestPlace (P : List ℕ → ℕ → Type 0) (L : List (List Event)) (h : List ℕ) (i k n : ℕ) : Type 0 where
@@ -90,7 +89,6 @@ module _ (P : List ℕ → ℕ → Type 0) (L : List (List Event)) (stays : Stay
         ended = ended;
         only = λ v low stops. ended_one P h v w low first stops ended;
         reached = end_whole (h ++ w) steps ended;
-        exists = λ whole. (h ++ w, whole);
       }
 
   -- and a drive w that never makes event k of instance i finds its latest place

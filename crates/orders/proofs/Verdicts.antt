@@ -126,6 +126,5 @@ drive_decides M L sound h o =
         ended = d.ended;
         only = d.only;
         reached = λ f full. whole_full M L (h ++ w) (d.reached f (full_whole M L f full));
-        exists = λ full. (h ++ w, full);
       },
     )

@@ -6,7 +6,7 @@ use Rattle.media.specs.Carry.{Carry}
 use Rattle.orders.specs.Histories.{pos}
 use Rattle.orders.specs.May.{May}
 
--- wherever h is u, then i, then v, i may run after u
+-- every step i of h has P after the steps u before it
 abbrev pub Steps : (List ℕ → ℕ → Type 0) → List ℕ → Type 0
 Steps P h = (u : List ℕ) (i : ℕ) (v : List ℕ) → h ≡ u ++ (i ∷ v) → P u i
 

@@ -26,14 +26,14 @@ pub record Greatest (M : Carry) (L : List (List Event)) (e : List ℕ) : Type 0 
 abbrev pub EndIsGreatest : Type 0
 EndIsGreatest = (M : Carry) (L : List (List Event)) (e : List ℕ) → Order M L e → Ended M L e → Greatest M L e
 
--- after any order h the lowest-first drive ends, in one way only; a full order exists exactly when it ends in one
+-- w is the lowest-first drive after h to an end, the only one, and ends in a full order where one exists
 pub record Decides (M : Carry) (L : List (List Event)) (h w : List ℕ) : Type 0 where
   pub lowest : Lowest M L h w
   pub ended : Ended M L (h ++ w)
   pub only : (v : List ℕ) → Lowest M L h v → Ended M L (h ++ v) → v ≡ w
   pub reached : (f : List ℕ) → Full M L f → Full M L (h ++ w)
-  pub exists : Full M L (h ++ w) → (f : List ℕ) × Full M L f
 
+-- after any order of a sound chart there is such a drive
 abbrev pub DriveDecides : Type 0
 DriveDecides = (M : Carry) (L : List (List Event)) → Sound L → (h : List ℕ) → Order M L h → (w : List ℕ) × Decides M L h w
 
