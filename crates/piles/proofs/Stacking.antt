@@ -25,7 +25,7 @@ stack_copied cs ds chart f L a b is =
 pub popped : (v w : Vec Flat Global) (r : Option Flat) (n : ℕ) → v.items ≡ w.items ++ option_to_list r → MatchOption r ((vec_len v ≡ 0) × (vec_len w ≡ 0)) (λ _. vec_len w + 1 ≡ vec_len v) →
     Popped n (stack_of v.items) (ok_or r (Line n)) (stack_of w.items)
 popped v w None n items cases =
-    (ap stack_of (nil_from_length v.items (let empty = cases.0 in omega (arith, v.ok.0))), refl)
+    (ap stack_of (nil_from_length v.items (let empty = cases.0 in omega (arith, v.ok.0))), (ap stack_of (nil_from_length w.items (let empty = cases.1 in omega (arith, w.ok.0))), refl))
 popped v w (Some chart) n items cases = ap stack_of items ∙ stack_push w.items chart
 
 module _ {V : Type 0} (S : List Meaning) (line : ℕ) (T : List Meaning) (r : Result V Unread) where

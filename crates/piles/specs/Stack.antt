@@ -1,5 +1,5 @@
 -- A stack of charts, by what they mean, the top first.
-use Rattle.std.specs.Prelude.{◌≡◌, ℕ, List, [], ◌∷◌, map, reverse, Some, None, Ok, Err, Option, Result}
+use Rattle.std.specs.Prelude.{◌≡◌, ℕ, ◌<◌, List, [], ◌∷◌, map, length, reverse, Some, None, Ok, Err, Option, Result}
 use Rattle.std.specs.Borrow.{Bor}
 use Rattle.flats.specs.declared.flat.Flat.{Flat}
 use Rattle.tabletexts.specs.declared.parts.Unread.{Unread}
@@ -23,8 +23,20 @@ shown (Some chart) = Some (flat_meaning chart.now)
 -- the top is taken off, or there is none and the line n is told
 abbrev pub Popped : ℕ → List Meaning → Result Flat Unread → List Meaning → Type 0
 Popped n S (Ok chart) T = S ≡ flat_meaning chart ∷ T
-Popped n S (Err (Line k)) T = (S ≡ []) × (k ≡ n)
+Popped n S (Err (Line k)) T = (S ≡ []) × ((T ≡ []) × (k ≡ n))
 Popped n S (Err Memory) T = ⊥
+
+-- the two upper charts are taken off, the upper one second, or there are not two, the stack stays and the line n is told
+abbrev pub PoppedTwo : ℕ → List Meaning → Result (Flat × Flat) Unread → List Meaning → Type 0
+PoppedTwo n S (Ok charts) T = S ≡ flat_meaning charts.1 ∷ flat_meaning charts.0 ∷ T
+PoppedTwo n S (Err (Line k)) T = (length S < 2) × ((T ≡ S) × (k ≡ n))
+PoppedTwo n S (Err Memory) T = ⊥
+
+-- a command that a line refuses leaves the stack as it was; want of memory says nothing
+abbrev pub RefusalKeeps : {A : Type 0} → Result A Unread → List Meaning → List Meaning → Type 0
+RefusalKeeps (Ok a) S T = Unit {0}
+RefusalKeeps (Err (Line k)) S T = T ≡ S
+RefusalKeeps (Err Memory) S T = Unit {0}
 
 -- one chart taken off, and what f makes of it put on
 abbrev pub turn_one : (Meaning → Meaning) → List Meaning → Option (List Meaning)

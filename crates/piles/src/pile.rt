@@ -1,7 +1,7 @@
 ghost use Rattle.std.specs.Prelude.{◌≡◌, [], ◌∷◌, Ok};
 ghost use Rattle.std.specs.Option.{ok_or, option_map};
 ghost use Rattle.tabletexts.specs.Outcome.{Answers};
-ghost use Rattle.piles.specs.Stack.{Popped, join_two, shown, top_of, turn_one};
+ghost use Rattle.piles.specs.Stack.{Popped, PoppedTwo, RefusalKeeps, join_two, shown, top_of, turn_one};
 ghost use Rattle.piles.specs.Meanings.{Makes, Meaning, after_meaning, beside_meaning, flat_meaning, meaning, recast_meaning};
 
 use charts::Chart;
@@ -70,6 +70,18 @@ impl Pile {
         self.charts.pop().ok_or(Unread::Line(line))
     }
 
+    // The two upper charts, taken off, the lower one first; where there are not two, none is taken off, and the line that wants them cannot be read.
+    fn pop_two(&mut self, line: usize) -> Result<(Flat, Flat), Unread>
+        ensures { PoppedTwo line self.old result self.new }
+    {
+        if self.charts.len() < 2 {
+            return Err(Unread::Line(line));
+        }
+        let upper = self.pop(line)?;
+        let lower = self.pop(line)?;
+        Ok((lower, upper))
+    }
+
     // Two charts taken off, and put on top what `join` makes of the lower and the upper one.
     fn join<C: Chart + Drop, F: FnOnce(Flat, Flat) -> C>(
         &mut self,
@@ -78,23 +90,25 @@ impl Pile {
         join: F,
     ) -> Result<(), Unread>
         requires { F.IsAlwaysCallable join }
-        ensures { (f : Meaning → Meaning → Meaning) → Makes f (F.post join) C.Chart.trouble C.Chart.lists → Answers (λ _. self.new) (ok_or (join_two f self.old) line) result }
+        ensures joined { (f : Meaning → Meaning → Meaning) → Makes f (F.post join) C.Chart.trouble C.Chart.lists → Answers (λ _. self.new) (ok_or (join_two f self.old) line) result }
+        ensures refused { RefusalKeeps result self.old self.new }
     {
-        let upper = self.pop(line)?;
-        let lower = self.pop(line)?;
+        let (lower, upper) = self.pop_two(line)?;
         self.push(heap, &join(lower, upper))
     }
 
     // Two charts taken off, and put on top the upper one after the other.
     pub(crate) fn join_after(&mut self, heap: Global, line: usize) -> Result<(), Unread>
-        ensures { Answers (λ _. self.new) (ok_or (join_two after_meaning self.old) line) result }
+        ensures joined { Answers (λ _. self.new) (ok_or (join_two after_meaning self.old) line) result }
+        ensures refused { RefusalKeeps result self.old self.new }
     {
         self.join(heap, line, After::new)
     }
 
     // Two charts taken off, and put on top the upper one beside the other.
     pub(crate) fn join_beside(&mut self, heap: Global, line: usize) -> Result<(), Unread>
-        ensures { Answers (λ _. self.new) (ok_or (join_two beside_meaning self.old) line) result }
+        ensures joined { Answers (λ _. self.new) (ok_or (join_two beside_meaning self.old) line) result }
+        ensures refused { RefusalKeeps result self.old self.new }
     {
         self.join(heap, line, Beside::new)
     }
@@ -106,7 +120,8 @@ impl Pile {
         line: usize,
         names: [u8; 32],
     ) -> Result<(), Unread>
-        ensures { Answers (λ _. self.new) (ok_or (turn_one (recast_meaning names) self.old) line) result }
+        ensures turned { Answers (λ _. self.new) (ok_or (turn_one (recast_meaning names) self.old) line) result }
+        ensures refused { RefusalKeeps result self.old self.new }
     {
         let chart = self.pop(line)?;
         self.push(heap, &Recast::new(chart, names))

@@ -1,5 +1,6 @@
 use charts::{Chart, Event, Fault, Kind, Peer};
-use piles::read_pile;
+use piles::{Pile, read_pile};
+use piletexts::{Command, Lines};
 use std::alloc::Global;
 use std::test::Fail;
 use tabletexts::Unread;
@@ -133,4 +134,18 @@ fn a_line_that_cannot_be_read(rt: HostRuntime) {
     for (text, line) in cases {
         assert_eq!(rt; read_pile(rt.alloc(), text).err(), Some(Unread::Line(line)));
     }
+}
+
+#[test]
+fn a_refused_command_leaves_the_stack(rt: HostRuntime) -> Result<(), Fail> {
+    let heap = rt.alloc();
+    let mut pile = Pile::new(heap);
+    let mut lines = Lines::new(b"");
+    pile.apply(heap, Command::Poll(1, 1), &mut lines)?;
+    for command in [Command::After, Command::Beside] {
+        let refused = pile.apply(heap, command, &mut lines);
+        assert_eq!(rt; refused, Err(Unread::Line(0)));
+        assert_eq!(rt; pile.top().map(|chart| chart.width()), Some(2));
+    }
+    Ok(())
 }

@@ -1,8 +1,9 @@
-ghost use Rattle.std.specs.Prelude.{◌≡◌, [], map, None, MatchOption, ◌≢◌};
+ghost use Rattle.std.specs.Prelude.{◌≡◌, [], map, None, IfSome, MatchOption, ◌≢◌};
 ghost use Rattle.charts.specs.Lists.{column};
 ghost use Rattle.joining.specs.Moves.{moved};
 ghost use Rattle.joining.specs.Recast.{to, recast_trouble, recast_lists, Undoes, Exactly};
 ghost use Rattle.joining.proofs.Recasts.{recast_judged};
+ghost use Rattle.recasts.specs.NamesBack.{NamesBack};
 
 use crate::renaming::renamed;
 use crate::turn::Turn;
@@ -36,9 +37,10 @@ impl<A: Chart> Recast<A> {
         }
     }
 
-    // The names that recast the chart back, where the chart is not spoiled and the names permute its instances.
+    // The names that recast the chart back, where the chart is not spoiled and the names permute its instances; 32 for a name that no instance has.
     pub fn inverse(&self) -> Option<[u8; 32]>
         ensures undoes { MatchOption result (recast_trouble (A.Chart.trouble self.now.chart) (A.Chart.lists self.now.chart) self.now.turn.to ≢ None) (λ b. Undoes (A.Chart.lists self.now.chart) self.now.turn.to b) }
+        ensures names { IfSome result (λ b. NamesBack self.now.turn.to b) }
         ensures exact { Exactly (A.Chart.trouble self.now.chart) (A.Chart.lists self.now.chart) self.now.turn.to }
     {
         match self.fault() {

@@ -18,7 +18,7 @@ loop-line-smaller-in-Continue-1 c =
     let fewer = applied_leaves c.in-Some-read_command.command
     (standing c.loop-line.pile c.next.new.self.number (lines_of c.next.new.self.rest.now))
     (standing c.apply.new.self c.apply.new.lines.number (lines_of c.apply.new.lines.rest.now))
-    c.in_ok-apply.ensures in
+    c.in_ok-apply.ensures.applied in
     omega (arith, ap length took.0)
 
 pub loop-line-preserved-in-Continue-1 : goal.loop-line-preserved-in-Continue-1
@@ -29,7 +29,7 @@ loop-line-preserved-in-Continue-1 c o p =
     (lines_of c.loop-line.lines.rest.now) (lines_of c.next.new.self.rest.now) c.in-Some.line.now took.0 took.1
     c.in-Some-read_command.command c.in-Some-read_command.ensures
     (standing c.apply.new.self c.apply.new.lines.number (lines_of c.apply.new.lines.rest.now))
-    c.in_ok-apply.ensures o p)
+    c.in_ok-apply.ensures.applied o p)
 
 pub returns-in_err-apply : goal.returns-in_err-apply
 returns-in_err-apply c =
@@ -39,7 +39,7 @@ returns-in_err-apply c =
     c.in-Some-read_command.command c.in-Some-read_command.ensures
     _
     (standing c.apply.new.self c.apply.new.lines.number (lines_of c.apply.new.lines.rest.now))
-    _ c.in_err-apply.field-0.0 c.from_residual.result c.loop-line.invariant c.in_err-apply.ensures (search rules)
+    _ c.in_err-apply.field-0.0 c.from_residual.result c.loop-line.invariant c.in_err-apply.ensures.applied (search rules)
 
 pub loop-line-preserved : goal.loop-line-preserved
 loop-line-preserved c o p =

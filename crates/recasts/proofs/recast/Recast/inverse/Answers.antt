@@ -9,6 +9,7 @@ returns-in-None g c =
     let L = g.A.Chart.lists t.chart in
     record {
       undoes = undoes f L t.turn.to c.inverse.result (g.A.Chart.sound t.chart) t.turn.names c.inverse.ensures.places c.inverse.ensures.inverse (sym c.in-None.ensures);
+      names = record { long = c.inverse.ensures.places; back = c.inverse.ensures.inverse };
       exact = exactly f L t.turn.to (g.A.Chart.sound t.chart) t.turn.names;
     }
 
