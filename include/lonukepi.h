@@ -56,7 +56,7 @@ typedef struct lonukepi_judgement {
 
 /* The words of an answer to a log. */
 #define LONUKEPI_FULL 1u         /* all events of the chart have happened */
-#define LONUKEPI_PART 2u         /* some have, in an order that is allowed */
+#define LONUKEPI_PART 2u         /* not all have; what is logged is allowed */
 #define LONUKEPI_TEXT_REFUSED 3u /* as above: see number and byte */
 #define LONUKEPI_LOG_REFUSED 4u  /* see number, index and instance */
 

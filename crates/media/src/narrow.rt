@@ -3,7 +3,7 @@ ghost use Rattle.media.specs.Media.{narrow};
 
 use crate::medium::Medium;
 
-// Carries as the medium below, and fewer than so many from one instance to another at a time.
+// Carries as the medium below, and sends only while fewer than so many are on the way from one instance to the other.
 #[derive(Clone, Copy)]
 pub struct Narrow<M> {
     room: u8,
