@@ -11,7 +11,6 @@ use Rattle.texts.specs.Static.{Static}
 use Rattle.texts.specs.Takes.{TooShortFor}
 use Rattle.texts.specs.Readings.{greatest}
 
-
 -- as many events as the text has
 pub size_said : (f : EventText → Event) (ns : List InstanceText) → size (map (λ (m : InstanceText). map f m.events) ns) ≡ length (flat_map (λ (m : InstanceText). m.events) ns)
 size_said f [] = refl

@@ -34,7 +34,7 @@ use Rattle.texts.proofs.Taking.{takes}
 use Rattle.lines.specs.declared.listing.Listing.{Listing}
 use Rattle.lines.specs.Names.{stands_in, are_names}
 use Rattle.lines.specs.Listings.{has_rows, HoldsRows}
-use Rattle.judged.specs.Shown.{ShowsVerdict, ShowsRead, Shows}
+use Rattle.judged.specs.Shown.{ListsText, ShowsVerdict, ShowsRead, Shows}
 
 module _ (text : List ℕ) where
   all_stand : (ns : List Placed) → Each (StandsIn text) ns → list_all (stands_in (length text)) (map row_of ns) ≡ true
@@ -144,17 +144,17 @@ module _ (text : List ℕ) (c : ChartText) (a : Answer) (t : Tables) (l : Listin
   pub faultless_held : checked l.table.lengths.now l.table.events.now ≡ None
   faultless_held = ap₂ checked lengths_held events_held ∙ b.faultless
 
--- the lines of a text that is read
+-- the listing of a text that is read
+pub lists_text : (a : Reading) (t : Tables) (l : Listing) → Reads (sentences a.text.now) greatest (Ok a) t → HoldsRows a t.lengths t.events t.instances t.messages t.actions l → ListsText a.text.now (answer_in a) l
+lists_text a t l h held =
+    record {
+      text_is = ap (λ (r : Reading). r.text.now) held.reading;
+      answer_is = ap answer_in held.reading;
+      holds =
+          subst (λ (u : Tables). HoldsRows l.reading u.lengths u.events u.instances u.messages u.actions l) h.1
+          (subst (λ (r : Reading). HoldsRows r t.lengths t.events t.instances t.messages t.actions l) (sym held.reading) held);
+    }
+
+-- its lines
 pub shows_read : (a : Reading) (t : Tables) (l : Listing) (bytes : List ℕ) → Reads (sentences a.text.now) greatest (Ok a) t → HoldsRows a t.lengths t.events t.instances t.messages t.actions l → ShowsVerdict l bytes → Shows a.text.now bytes
-shows_read a t l bytes h held shows =
-    subst (λ (x : Result Answer Fault). ShowsRead a.text.now x bytes) (sym h.0) (
-      l,
-      record {
-        text_is = ap (λ (r : Reading). r.text.now) held.reading;
-        answer_is = ap answer_in held.reading;
-        holds =
-            subst (λ (u : Tables). HoldsRows l.reading u.lengths u.events u.instances u.messages u.actions l) h.1
-            (subst (λ (r : Reading). HoldsRows r t.lengths t.events t.instances t.messages t.actions l) (sym held.reading) held);
-      },
-      shows,
-    )
+shows_read a t l bytes h held shows = subst (λ (x : Result Answer Fault). ShowsRead a.text.now x bytes) (sym h.0) (l, lists_text a t l h held, shows)

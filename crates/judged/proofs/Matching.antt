@@ -83,7 +83,7 @@ module _ (text : List ℕ) (c : ChartText) (a : Answer) (t : Tables) (l : Listin
   abbrev L : List (List Event)
   L = lists_of c
 
-  chart_is : chart_in l ≡ L
+  pub chart_is : chart_in l ≡ L
   chart_is = ap₂ table_lists (lengths_held text c a t l l.reading answer_is b held) (events_held text c a t l l.reading answer_is b held) ∙ b.chart
 
   width_is : length L ≡ length c.instances
@@ -139,7 +139,7 @@ module _ (text : List ℕ) (c : ChartText) (a : Answer) (t : Tables) (l : Listin
       ∙ ap (λ (ws : List (List ℕ)). line (spaced (decimal place ∷ instance_name l i ∷ ws))) (words_are i k s.instance_text s.event_text s.instance_at s.event_at)
       ∙ ap (λ (w : List ℕ). line (spaced (decimal place ∷ w ∷ event_words s.event_text))) (instance_named i s.instance_text s.instance_at).1
 
-  steps_told : (h w : List ℕ) → ((u : List ℕ) (i : ℕ) (v : List ℕ) → w ≡ u ++ (i ∷ v) → May free L (h ++ u) i) → TellsSteps c h w (step_lines l h w)
+  pub steps_told : (h w : List ℕ) → ((u : List ℕ) (i : ℕ) (v : List ℕ) → w ≡ u ++ (i ∷ v) → May free L (h ++ u) i) → TellsSteps c h w (step_lines l h w)
   steps_told h [] may = none h
   steps_told h (i ∷ w) may =
       let m : May free L h i = subst (λ (g : List ℕ). May free L g i) (append-nil h) (may [] i w refl) in

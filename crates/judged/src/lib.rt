@@ -6,4 +6,6 @@ mod judging;
 mod listed;
 mod steps;
 
+pub use adding::add_refusal;
 pub use judging::judged_lines;
+pub use steps::add_steps;

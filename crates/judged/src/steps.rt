@@ -7,7 +7,7 @@ use runs::Verdict;
 use std::alloc::AllocError;
 
 // The lines of an order's events, after the lines so far.
-fn add_steps(lines: &mut Vec<u8>, listing: &Listing, order: &[u8]) -> Result<(), AllocError>
+pub fn add_steps(lines: &mut Vec<u8>, listing: &Listing, order: &[u8]) -> Result<(), AllocError>
     ensures { IfOk result (λ _. lines.new.items ≡ lines.old.items ++ step_lines listing.now [] order.now) }
 {
     // how often each instance was listed

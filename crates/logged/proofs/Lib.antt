@@ -1,0 +1,5 @@
+pub mod Led
+pub mod Counting
+pub mod Showing
+pub mod Telling
+pub mod Only

@@ -1,0 +1,4 @@
+pub mod Leading
+pub mod Taken
+pub mod Shown
+pub mod Told
