@@ -45,6 +45,11 @@ log_in ([] ∷ fs) = None
 log_in ((b ∷ bs) ∷ []) = cond (all_digits (b ∷ bs)) (Some (bytes_of (b ∷ bs))) None
 log_in ((b ∷ bs) ∷ f ∷ fs) = None
 
+-- the field that has the digits of a log, empty where none stands behind the word
+abbrev pub digits_in : List (List ℕ) → List ℕ
+digits_in [] = []
+digits_in (f ∷ fs) = f
+
 -- the bytes of the log in the fields of a line
 abbrev pub log_fields : List (List ℕ) → Option (List ℕ)
 log_fields [] = None
@@ -61,6 +66,18 @@ statement_on line =
     (option_or (text_on line)
     (option_or (option_map to_medium (medium_on line))
     (option_or (option_map a_log (log_on line)) (option_map a_call (call_on line)))))
+
+-- a log has the digits that stand behind the first word of its line
+abbrev pub behind_word : List (List ℕ) → List ℕ
+behind_word [] = []
+behind_word (w ∷ fs) = digits_in fs
+
+abbrev pub HasDigitsOf : List ℕ → Statement → Type 0
+HasDigitsOf line (Pile c) = Unit {0}
+HasDigitsOf line Text = Unit {0}
+HasDigitsOf line (Medium m) = Unit {0}
+HasDigitsOf line (Log digits) = digits.now ≡ behind_word (fields line)
+HasDigitsOf line (Call c room) = Unit {0}
 
 -- the line writes the statement, whatever else it may write
 pub data Writes (line : List ℕ) : Said → Type 0 where

@@ -1,6 +1,6 @@
-ghost use Rattle.std.specs.Prelude.{◌≡◌, Some};
+ghost use Rattle.std.specs.Prelude.{◌≡◌, Some, IfSome};
 ghost use Rattle.std.specs.Option.{option_map};
-ghost use Rattle.scripts.specs.Statements.{Said, said, statement_on, Writes};
+ghost use Rattle.scripts.specs.Statements.{Said, said, statement_on, HasDigitsOf, Writes};
 
 use crate::calls::read_call;
 use crate::log_lines::read_log;
@@ -13,6 +13,7 @@ use tabletexts::cut;
 #[tactic(auto, using(crate::proofs::Words::read_alone))]
 pub fn read_statement(line: &[u8]) -> Option<Statement<'_>>
     ensures value { option_map said result ≡ statement_on line.now }
+    ensures digits { IfSome result (λ s. HasDigitsOf line.now s) }
     ensures alone { (s : Said) → Writes line.now s → option_map said result ≡ Some s }
 {
     if let Some(command) = read_command(line) {
