@@ -36,7 +36,7 @@ use Rattle.logs.specs.Entries.{Taken, EntryRefused}
 use Rattle.logs.specs.Events.{TakesEntry, EventRefused, cut_short, wrong_record, entry, EventAnswers}
 use Rattle.logs.specs.Ends.{end_of, VerdictIs, EndRefused, cut_short as end_short, wrong_record as no_end, wrong_count, EndAnswers}
 use Rattle.logs.specs.AnnexB.{Names, NamesEach}
-use Rattle.logs.specs.Keeping.{RefusalKeeps}
+use Rattle.runs.specs.Tells.{RefusalKeeps}
 use Rattle.logs.specs.Carried.{HasTaken, TakesMore, AllowedEntries, VerdictOn, Closes}
 use Rattle.logs.proofs.Onward.{not_early}
 use Rattle.logs.proofs.Split.{one_entry, one_end}

@@ -1,5 +1,4 @@
 pub mod Causes
-pub mod Keeping
 pub mod Reading
 pub mod Followers
 pub mod Heads

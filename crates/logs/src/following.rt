@@ -2,11 +2,11 @@ ghost use Rattle.std.specs.Prelude.{◌≡◌, ℕ, List, [], ◌∷◌, ◌++�
 ghost use Rattle.media.specs.Media.{free};
 ghost use Rattle.records.specs.Records.{entry_bytes};
 ghost use Rattle.runs.specs.Runs.{fault_of, lists_of, medium_of, KeepsChart, StandsAfter};
+ghost use Rattle.runs.specs.Tells.{RefusalKeeps};
 ghost use Rattle.logs.specs.Followers.{one_more};
 ghost use Rattle.logs.specs.Events.{TakesEntry, EventAnswers};
 ghost use Rattle.logs.specs.Carried.{HasTaken, TakesMore, AllowedEntries, Closes};
 ghost use Rattle.logs.specs.Ends.{TakesEnd, EndAnswers};
-ghost use Rattle.logs.specs.Keeping.{RefusalKeeps};
 
 use crate::parts::{Cause, Closed, Following, Refusal, Verdict};
 use crate::reading::read_one;

@@ -1,9 +1,9 @@
 ghost use Rattle.std.specs.Prelude.{◌≡◌, ℕ, List, IsTrue, ◌↔◌};
 ghost use Rattle.runs.specs.Runs.{fault_of, lists_of, medium_of, KeepsChart, StandsAfter};
+ghost use Rattle.runs.specs.Tells.{RefusalKeeps};
 ghost use Rattle.logs.specs.Entries.{cause_of, TakeAnswers};
 ghost use Rattle.logs.specs.Heads.{head_of};
 ghost use Rattle.logs.specs.Ends.{VerdictIs};
-ghost use Rattle.logs.specs.Keeping.{RefusalKeeps};
 
 use crate::parts::{Cause, Verdict};
 use charts::Event;

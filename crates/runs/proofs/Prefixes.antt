@@ -66,8 +66,7 @@ module _ (M : Carry) (L : List (List Event)) (sound : Sound L) where
   turn_made t h x y rows order m =
       let room = length (vec_items x.buffer) in
       record {
-        order = order;
-        goes_on = (starts_full h order).goes_on;
+        starts = starts_full h order;
         call = m.call;
         room = m.room;
         answered = subst (λ (a : Option Answer). Answers t M L h x.call (vec_items x.buffer) a (vec_items y.buffer)) (sym m.noted) m.made.answered;

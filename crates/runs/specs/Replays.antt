@@ -9,11 +9,14 @@ use Rattle.runs.specs.declared.calls.Turn.{Turn}
 use Rattle.runs.specs.Answers.{Answers}
 use Rattle.runs.specs.Histories.{After}
 
--- a turn x made after the history h has become y, and g is the history then
-pub record TurnMade (t : Option Fault) (M : Carry) (L : List (List Event)) (h : List ℕ) (x y : Turn) (g : List ℕ) : Type 0 where
-  -- the history is an order, and if a full order exists, one starts with it
+-- the history h is an order, and if a full order exists, one starts with it
+pub record StartsFull (M : Carry) (L : List (List Event)) (h : List ℕ) : Type 0 where
   pub order : Order M L h
   pub goes_on : (f : List ℕ) → Full M L f → (v : List ℕ) × Full M L (h ++ v)
+
+-- a turn x made after the history h has become y, and g is the history then
+pub record TurnMade (t : Option Fault) (M : Carry) (L : List (List Event)) (h : List ℕ) (x y : Turn) (g : List ℕ) : Type 0 where
+  pub starts : StartsFull M L h
   -- the call is as it was, and answered as the history fixes
   pub call : y.call ≡ x.call
   -- its buffer has the room that it had: nothing was allocated for it
@@ -22,11 +25,6 @@ pub record TurnMade (t : Option Fault) (M : Carry) (L : List (List Event)) (h : 
   -- there is one history after it
   pub history : After t M L h x.call (length (vec_items x.buffer)) g
   pub only : (k : List ℕ) → After t M L h x.call (length (vec_items x.buffer)) k → k ≡ g
-
--- the history h is an order, and if a full order exists, one starts with it
-pub record StartsFull (M : Carry) (L : List (List Event)) (h : List ℕ) : Type 0 where
-  pub order : Order M L h
-  pub goes_on : (f : List ℕ) → Full M L f → (v : List ℕ) × Full M L (h ++ v)
 
 -- the turns xs, made one after another from the history h on, have become ys, and g is the history then
 abbrev pub Replayed : Option Fault → Carry → List (List Event) → List ℕ → List Turn → List Turn → List ℕ → Type 0

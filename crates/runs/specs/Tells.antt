@@ -10,6 +10,6 @@ Tells (Some f) Answers r = r ≡ Err (Spoiled f)
 Tells None Answers r = Answers r
 
 -- a refused call leaves what it was handed as it was
-abbrev pub RefusalKeeps : {A B : Type 0} → Result A Refusal → B → B → Type 0
+abbrev pub RefusalKeeps : {A E B : Type 0} → Result A E → B → B → Type 0
 RefusalKeeps (Ok a) before after = Unit {0}
 RefusalKeeps (Err r) before after = after ≡ before
