@@ -46,5 +46,6 @@ has_match ns es k e =
     (nat_le (length es) (first_place (other_kind e.kind) e.number es))
     (joins ns es (first_place (other_kind e.kind) e.number es) e.peer (instance_of ns k))
 
+-- 18 where the event is a message and has no match
 abbrev pub matched : List ℕ → List Event → ℕ → Event → Option ℕ
 matched ns es k e = unless (not (is_message e) || has_match ns es k e) 18

@@ -4,5 +4,6 @@ use Rattle.charts.specs.declared.parts.Event.{Event}
 use Rattle.copies.specs.declared.linker.Linker.{Linker}
 use Rattle.copies.specs.Kept.{grid_lists}
 
+-- those of its grid
 abbrev pub linked_lists : Linker → List (List Event)
 linked_lists x = grid_lists x.grid.now

@@ -63,6 +63,7 @@ nothing_in [] (semicolon b) = Err (at_byte AfterEnd b)
 nothing_in [] (fault c b) = Err (at_byte c b)
 nothing_in (w ∷ ws) e = Err (at_byte AfterEnd w.start)
 
+-- after the end of the text nothing may stand
 abbrev pub finished : List Sentence → Items
 finished l = record { items = []; outcome = nothing_in (first l).words (first l).ending }
 

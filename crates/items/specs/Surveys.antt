@@ -53,6 +53,7 @@ pub record Size : Type 0 where
   pub instances : ℕ
   pub events : ℕ
 
+-- the size by the name and the numbers; the fault of the name comes first
 abbrev pub sized : Result Placed Fault → Result (ℕ × ℕ) Fault → Result Size Fault
 sized (Err f) r = Err f
 sized (Ok t) (Err f) = Err f
@@ -67,6 +68,7 @@ abbrev pub items_if : Result Placed Fault → Items → List Item
 items_if (Ok t) is = is.items
 items_if (Err f) is = []
 
+-- the items of a text, none where its name cannot be read
 abbrev pub items_in : List Sentence → List Item
 items_in ss = items_if (title_in ss) (items_from false (others ss))
 
@@ -88,9 +90,11 @@ is_end End = true
 abbrev pub Counts : Items → Result (ℕ × ℕ) Fault → Type 0
 Counts is r = counted is ≡ r
 
+-- the size that was answered
 abbrev pub size_of : SizeText → Size
 size_of s = record { title = placed s.title; instances = s.instances; events = s.events }
 
+-- the size of the text, or its fault
 abbrev pub Surveys : List Sentence → Result SizeText Fault → Type 0
 Surveys ss (Ok s) = surveyed ss ≡ Ok (size_of s)
 Surveys ss (Err f) = surveyed ss ≡ Err f

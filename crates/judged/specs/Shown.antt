@@ -48,5 +48,6 @@ abbrev pub ShowsRead : List ℕ → Result Answer Fault → List ℕ → Type 0
 ShowsRead text (Ok a) bytes = (l : Listing) × ListsText text a l × ShowsVerdict l bytes
 ShowsRead text (Err f) bytes = bytes ≡ refusal_line f
 
+-- the lines of a text
 abbrev pub Shows : List ℕ → List ℕ → Type 0
 Shows text bytes = ShowsRead text (read_as greatest (sentences text)) bytes

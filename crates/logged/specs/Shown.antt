@@ -28,5 +28,6 @@ abbrev pub ShowsRead : List ℕ → Result Answer Fault → List ℕ → List �
 ShowsRead text (Ok a) log bytes = (l : Listing) × ListsText text a l × ShowsLog l log bytes
 ShowsRead text (Err f) log bytes = bytes ≡ refusal_line f
 
+-- the lines of a log by a text
 abbrev pub Shows : List ℕ → List ℕ → List ℕ → Type 0
 Shows text log bytes = ShowsRead text (read_as greatest (sentences text)) log bytes

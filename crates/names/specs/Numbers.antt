@@ -11,6 +11,7 @@ use Rattle.names.specs.declared.parts.Refusal.TheVariants.{Repeated, Full}
 abbrev pub Numbers : Type 0
 Numbers = FinMap (slice_cmp nat_cmp) ℕ
 
+-- such names as one value
 abbrev pub numbers_code : Coded Numbers
 numbers_code = code (coded_list coded_ℕ) coded_ℕ
 

@@ -48,6 +48,7 @@ pub record OneRing (M : Carry) (L : List (List Event)) (e r : List ℕ) : Type 0
   pub only : (q : List ℕ) → Ring M L e q → q ≡ r
   pub everywhere : (g : List ℕ) → Order M L g → Ended M L g → Ring M L g r
 
+-- every end of a sound chart that is not full has one
 abbrev pub StuckHasRing : Type 0
 StuckHasRing =
     (M : Carry) (L : List (List Event)) → Sound L → (e : List ℕ) → Order M L e → Ended M L e → (Full M L e → ⊥) → (r : List ℕ) × OneRing M L e r

@@ -13,6 +13,7 @@ pub record Standing : Type 0 where
   pub number : ℕ
   pub lines : List (List ℕ)
 
+-- the stack S at line n, with these lines behind it
 abbrev pub standing : List Meaning → ℕ → List (List ℕ) → Standing
 standing S n ls = record { stack = S; number = n; lines = ls }
 

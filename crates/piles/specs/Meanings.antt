@@ -15,6 +15,7 @@ pub record Meaning : Type 0 where
   pub trouble : Option Fault
   pub lists : List (List Event)
 
+-- the fault f, or none, and the lists L
 abbrev pub meaning : Option Fault → List (List Event) → Meaning
 meaning f L = record { trouble = f; lists = L }
 

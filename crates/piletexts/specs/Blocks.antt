@@ -10,6 +10,7 @@ pub record UpTo (A : Type 0) : Type 0 where
   pub number : ℕ
   pub behind : List (List ℕ)
 
+-- x was found up to line n, with these lines behind it
 abbrev pub up_to : {A : Type 0} → A → ℕ → List (List ℕ) → UpTo A
 up_to x n ls = record { found = x; number = n; behind = ls }
 

@@ -32,6 +32,7 @@ pub record State : Type 0 where
   pub plan : Plan
   pub standing : Standing
 
+-- a plan with a stack and lines
 abbrev pub state : Plan → Standing → State
 state p s = record { plan = p; standing = s }
 

@@ -10,6 +10,7 @@ pub record LogContent : Type 0 where
   pub bytes : List ℕ
   pub answer : Option (Result Verdict Refusal)
 
+-- what a log holds
 abbrev pub log_content : Log → LogContent
 log_content x = record { after = x.after; bytes = vec_items x.bytes; answer = x.answer }
 

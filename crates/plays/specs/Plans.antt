@@ -18,6 +18,7 @@ pub record Plan : Type 0 where
   pub turns : List Content
   pub logs : List LogContent
 
+-- the part p, the medium M, the turns xs and the logs ls
 abbrev pub plan : Part → Carry → List Content → List LogContent → Plan
 plan p M xs ls = record { part = p; medium = M; turns = xs; logs = ls }
 

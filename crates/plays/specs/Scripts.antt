@@ -13,8 +13,10 @@ pub record Script : Type 0 where
   pub turns : List Content
   pub logs : List LogContent
 
+-- the chart a, the medium M, the turns xs and the logs ls
 abbrev pub script : Meaning → Carry → List Content → List LogContent → Script
 script a M xs ls = record { chart = a; medium = M; turns = xs; logs = ls }
 
+-- what a script asks for that was read
 abbrev pub script_of : ScriptText → Script
 script_of s = script (flat_meaning s.chart) (carried s.bus) (map content (vec_items s.turns)) (map log_content (vec_items s.logs))

@@ -10,6 +10,7 @@ pub record Content : Type 0 where
   pub bytes : List ℕ
   pub answer : Option Answer
 
+-- what a turn holds
 abbrev pub content : Turn → Content
 content x = record { call = x.call; bytes = vec_items x.buffer; answer = x.answer }
 

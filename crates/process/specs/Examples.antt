@@ -19,12 +19,14 @@ OutputThenInput i j m =
     let n = act («in» i j m) in
     Calculation (filter none (o · n)) (o · filter (with_message none m) n ∷ o · n · filter none ε ∷ o · n ∷ [])
 
+-- an input before its output is deadlock
 abbrev pub InputThenOutput : ℕ → ℕ → ℕ → Type 0
 InputThenOutput i j m =
     let o = act (out i j m) in
     let n = act («in» i j m) in
     Calculation (filter none (n · o)) (δ ∷ [])
 
+-- merged, the output comes first
 abbrev pub OutputMergedWithInput : ℕ → ℕ → ℕ → Type 0
 OutputMergedWithInput i j m =
     let o = act (out i j m) in
@@ -48,6 +50,7 @@ ThreeInstancesMerged m n =
     in_m · (out_m · (in_n · out_n ⊕ out_n · in_n) ⊕ in_n · out_m · out_n) ⊕
     in_n · (out_m · (in_m · out_n ⊕ out_n · in_m) ⊕ in_m · out_m · out_n)
 
+-- of the chart each message is output before it is input
 abbrev pub ThreeInstancesChart : ℕ → ℕ → Type 0
 ThreeInstancesChart m n =
     let out_m = act (out 0 1 m) in

@@ -5,6 +5,7 @@ use Rattle.charts.specs.Lists.{count_of}
 use Rattle.orders.specs.Passing.{passing}
 use Rattle.rules.specs.declared.row.Row.{Row}
 
+-- the row of no instance
 abbrev pub no_row : Row
 no_row = record { position = 0; sent = [] }
 

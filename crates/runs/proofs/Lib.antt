@@ -6,3 +6,4 @@ pub mod Dones
 pub mod Judging
 pub mod Making
 pub mod Prefixes
+pub mod Standing

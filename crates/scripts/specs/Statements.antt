@@ -72,6 +72,7 @@ abbrev pub behind_word : List (List ℕ) → List ℕ
 behind_word [] = []
 behind_word (w ∷ fs) = digits_in fs
 
+-- the digits of a log are those on the line
 abbrev pub HasDigitsOf : List ℕ → Statement → Type 0
 HasDigitsOf line (Pile c) = Unit {0}
 HasDigitsOf line Text = Unit {0}

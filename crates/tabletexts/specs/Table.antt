@@ -59,6 +59,7 @@ pub record Table : Type 0 where
   pub lengths : List ℕ
   pub events : List Event
 
+-- the lengths ns and the events es
 abbrev pub table : List ℕ → List Event → Table
 table ns es = record { lengths = ns; events = es }
 

@@ -57,6 +57,7 @@ pub record Draft : Type 0 where
   pub count : ℕ
   pub events : List Event
 
+-- nothing is written yet
 abbrev pub no_draft : Draft
 no_draft = record { lengths = []; count = 0; events = [] }
 

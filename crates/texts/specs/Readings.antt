@@ -54,6 +54,7 @@ pub record Tables : Type 0 where
   pub messages : List Name
   pub actions : List Name
 
+-- five tables by their rows
 abbrev pub tables : List ℕ → List Event → List Name → List Name → List Name → Tables
 tables lengths events instances messages actions = record { lengths = lengths; events = events; instances = instances; messages = messages; actions = actions }
 
@@ -118,6 +119,7 @@ pub record Answer : Type 0 where
   pub messages : ℕ
   pub actions : ℕ
 
+-- the answer by the size and the names
 abbrev pub answer : Size → Named → Answer
 answer size s = record { title = size.title; instances = size.instances; events = size.events; messages = length s.messages; actions = length s.actions }
 
