@@ -32,7 +32,7 @@ use Rattle.texts.specs.Static.{Static}
 use Rattle.texts.specs.Builds.{bytes_at, StandFor, Builds}
 use Rattle.texts.proofs.Padding.{take_rows}
 use Rattle.texts.proofs.Taking.{takes_ok}
-use Rattle.texts.proofs.Fitting.{size_said, never_written}
+use Rattle.texts.proofs.Fitting.{size_said, first_fault}
 use Rattle.lines.specs.declared.listing.Listing.{Listing}
 use Rattle.lines.specs.Names.{name_at}
 use Rattle.lines.specs.Listings.{HoldsRows}
@@ -229,7 +229,7 @@ tells text bytes h = go (read_as greatest (sentences text)) refl h
     by_verdict a l x c w k b (Stuck n) out out' j are = ring_told text c a (tables_of greatest (items_in (sentences text))) l b x.text_is x.answer_is x.holds w k bytes out out' n j.0 j.1 are
 
     go : (r : Result Answer Fault) → read_as greatest (sentences text) ≡ r → ShowsRead text r bytes → TellsText text bytes
-    go (Err f) read h = refused f (never_written text f read) read h
+    go (Err f) read h = refused f (first_fault text f read) h
     go (Ok a) read h =
         let t = tables_of greatest (items_in (sentences text)) in
         let k = takes_ok text greatest a t read refl in

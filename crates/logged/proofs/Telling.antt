@@ -12,7 +12,7 @@ use Rattle.items.specs.Surveys.{items_in}
 use Rattle.texts.specs.Charted.{lists_of}
 use Rattle.texts.specs.Readings.{Answer, read_as, tables_of, greatest}
 use Rattle.texts.proofs.Taking.{takes_ok}
-use Rattle.texts.proofs.Fitting.{never_written}
+use Rattle.texts.proofs.Fitting.{first_fault}
 use Rattle.judged.specs.Shown.{step_lines}
 use Rattle.judged.proofs.Matching.{chart_is, steps_told}
 use Rattle.logged.specs.Taken.{TakenFrom, more, over, TakenOf, headed, headless, instances_of}
@@ -42,7 +42,7 @@ pub tells : (text log bytes : List ℕ) → Shows text log bytes → TellsLog te
 tells text log bytes h = go (read_as greatest (sentences text)) refl h
   where
     go : (r : Result Answer Fault) → read_as greatest (sentences text) ≡ r → ShowsRead text r log bytes → TellsLog text log bytes
-    go (Err f) read h = refused f (never_written text f read) read h
+    go (Err f) read h = refused f (first_fault text f read) h
     go (Ok a) read h =
         let t = tables_of greatest (items_in (sentences text)) in
         let k = takes_ok text greatest a t read refl in

@@ -7,12 +7,12 @@ use Rattle.charts.specs.Lists.{size}
 use Rattle.words.specs.declared.faults.Fault.{Fault}
 use Rattle.words.specs.Sentences.{sentences}
 use Rattle.grammar.specs.Texts.{EventText, outputs, inputs, acts, InstanceText, ChartText}
-use Rattle.grammar.specs.Writing.{Writes}
 use Rattle.texts.specs.Names.{has, with_name, message_of, action_of, events_in, instance_names}
 use Rattle.texts.specs.Charted.{event_in, lists_of}
 use Rattle.texts.specs.Static.{Static}
 use Rattle.texts.specs.Takes.{TooShortFor}
 use Rattle.texts.specs.Readings.{read_as, greatest}
+use Rattle.texts.specs.FirstFault.{FirstFault}
 use Rattle.texts.proofs.Taking.{takes_err}
 
 -- as many events as the text has
@@ -68,6 +68,6 @@ room_enough c k short =
       ]
     ]
 
--- a text that is refused by them writes no such chart
-pub never_written : (text : List ℕ) (f : Fault) → read_as greatest (sentences text) ≡ Err f → (c : ChartText) → Writes text c → Static c → ⊥
-never_written text f reads c w k = room_enough c k (takes_err text greatest f reads c w k).1
+-- so a text that is refused by them writes none
+pub first_fault : (text : List ℕ) (f : Fault) → read_as greatest (sentences text) ≡ Err f → FirstFault text f
+first_fault text f reads = record { unwritten = λ c w k. room_enough c k (takes_err text greatest f reads c w k).1; first = reads }

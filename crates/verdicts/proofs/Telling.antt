@@ -1,10 +1,9 @@
 -- What is said of a text by its tables is told of the chart that it writes.
-use Rattle.std.proofs.Common.{◌≡◌, ℕ, List, length, map, Ok, Err, Result, refl, sym, ap₂, ◌∙◌, subst}
+use Rattle.std.proofs.Common.{◌≡◌, ℕ, List, length, map, Ok, Result, refl, sym, ap₂, ◌∙◌, subst}
 use Rattle.std.proofs.lemmas.List.{length-map}
 use Rattle.charts.specs.declared.parts.Event.{Event}
 use Rattle.charts.specs.Events.{no_event}
 use Rattle.checks.specs.Cut.{in_one}
-use Rattle.words.specs.declared.faults.Fault.{Fault}
 use Rattle.words.specs.Sentences.{sentences}
 use Rattle.tables.specs.TableLists.{table_lists}
 use Rattle.grammar.specs.Texts.{ChartText}
@@ -15,7 +14,6 @@ use Rattle.texts.proofs.Padding.{take_rows}
 use Rattle.texts.proofs.Readable.{Readable, readable}
 use Rattle.texts.proofs.Charting.{length_in_one}
 use Rattle.texts.proofs.Taking.{takes_ok}
-use Rattle.texts.proofs.Fitting.{never_written}
 use Rattle.logs.specs.declared.parts.Refusal.{Refusal}
 use Rattle.logs.specs.declared.parts.Verdict.{Verdict}
 use Rattle.verdicts.specs.declared.answers.Judgement.{Judgement}
@@ -23,7 +21,7 @@ use Rattle.verdicts.specs.declared.answers.LogAnswer.{LogAnswer}
 use Rattle.verdicts.specs.Charts.{read, items_of, lists_of, names_of}
 use Rattle.verdicts.specs.Judging.{Judges}
 use Rattle.verdicts.specs.Checking.{Checked}
-use Rattle.verdicts.specs.Told.{Refused, TellsJudgement, of_chart, TellsLog, by_chart}
+use Rattle.verdicts.specs.Told.{TellsJudgement, of_chart, TellsLog, by_chart}
 use Rattle.verdicts.proofs.Readable.{members_padded, judges_same}
 
 module _ (text : List ℕ) where
@@ -47,11 +45,7 @@ module _ (text : List ℕ) where
           sym (take_rows no_event 4096 a.events (rows_in (items_of text)) t.events refl k.events)
           ∙ take_rows no_event (length t.events) a.events (in_one (chart_lists c)) t.events b.events (b.event_count ∙ sym (length_in_one (chart_lists c)))
 
-  -- a text that is refused
-  pub refused_text : (f : Fault) → read text ≡ Err f → Refused text f
-  refused_text f reads = record { unwritten = never_written text f reads; first = reads }
-
-  -- one that is read
+  -- what is told of it
   module _ (a : Answer) (reads : read text ≡ Ok a) where
     pub judgement_told : (j : Judgement) → Judges (lists_of text) (names_of text) j → TellsJudgement text j
     judgement_told j judges =

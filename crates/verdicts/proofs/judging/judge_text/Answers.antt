@@ -1,9 +1,10 @@
 use Rattle.std.proofs.Common.{sym, subst}
+use Rattle.texts.proofs.Fitting.{first_fault}
 use Rattle.verdicts.specs.Charts.{lists_of, names_of}
 use Rattle.verdicts.specs.Judging.{JudgesRead}
 use Rattle.verdicts.specs.Told.{of_fault}
 use Rattle.verdicts.proofs.Readable.{judges_held}
-use Rattle.verdicts.proofs.Telling.{refused_text, judgement_told}
+use Rattle.verdicts.proofs.Telling.{judgement_told}
 use Rattle.verdicts.proofs.judging.judge_text.Goals as goal
 
 pub returns-in-Ok-clause-judges : goal.returns-in-Ok-clause-judges
@@ -19,4 +20,4 @@ returns-in-Ok-clause-tells c =
     judgement_told text reads.0.0 reads.0.1 c.judge.result (judges_held text c.in-Ok.chart c.judge.result reads.1 c.judge.ensures)
 
 pub returns-in-Err-clause-tells : goal.returns-in-Err-clause-tells
-returns-in-Err-clause-tells c = of_fault c.in-Err.fault (refused_text c.args.text.now c.in-Err.fault c.in-Err.ensures) c.refused.ensures
+returns-in-Err-clause-tells c = of_fault c.in-Err.fault (first_fault c.args.text.now c.in-Err.fault c.in-Err.ensures) c.refused.ensures
