@@ -3,4 +3,3 @@ pub mod Telling
 pub mod Holding
 pub mod Naming
 pub mod Matching
-pub mod Fitting

@@ -31,7 +31,8 @@ use Rattle.texts.specs.Charted.{event_in, lists_of}
 use Rattle.texts.specs.Static.{Static}
 use Rattle.texts.specs.Builds.{bytes_at, StandFor, Builds}
 use Rattle.texts.proofs.Padding.{take_rows}
-use Rattle.texts.proofs.Taking.{takes_ok, takes_err}
+use Rattle.texts.proofs.Taking.{takes_ok}
+use Rattle.texts.proofs.Fitting.{size_said, first_fault}
 use Rattle.lines.specs.declared.listing.Listing.{Listing}
 use Rattle.lines.specs.Names.{name_at}
 use Rattle.lines.specs.Listings.{HoldsRows}
@@ -40,7 +41,6 @@ use Rattle.judged.specs.Shown.{chart_in, step_lines, order_lines, ListsText, Sho
 use Rattle.judged.specs.Told.{event_words, chart_line, step_line, TellsSteps, none, step, TellsText, runs, gets_stuck, refused}
 use Rattle.judged.proofs.Holding.{lengths_held, events_held}
 use Rattle.judged.proofs.Naming.{stands_at, has_own, once_has, among_all, row_named, Said, said}
-use Rattle.judged.proofs.Fitting.{size_said, room_enough}
 
 -- an instance that may run, or waits, has an event left
 may_within : {M : Carry} {L : List (List Event)} {h : List ℕ} {i : ℕ} → May M L h i → pos h i < count_of L i
@@ -229,7 +229,7 @@ tells text bytes h = go (read_as greatest (sentences text)) refl h
     by_verdict a l x c w k b (Stuck n) out out' j are = ring_told text c a (tables_of greatest (items_in (sentences text))) l b x.text_is x.answer_is x.holds w k bytes out out' n j.0 j.1 are
 
     go : (r : Result Answer Fault) → read_as greatest (sentences text) ≡ r → ShowsRead text r bytes → TellsText text bytes
-    go (Err f) read h = refused f (λ c w k. room_enough c k (takes_err text greatest f read c w k).1) read h
+    go (Err f) read h = refused f (first_fault text f read) h
     go (Ok a) read h =
         let t = tables_of greatest (items_in (sentences text)) in
         let k = takes_ok text greatest a t read refl in

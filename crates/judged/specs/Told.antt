@@ -1,5 +1,5 @@
 -- What is told of a chart text, in the text's own names.
-use Rattle.std.specs.Prelude.{◌≡◌, ℕ, ◌+◌, List, [], ◌∷◌, ◌++◌, length, map, codes, decimal, slice_get, Some, Err}
+use Rattle.std.specs.Prelude.{◌≡◌, ℕ, ◌+◌, List, [], ◌∷◌, ◌++◌, length, map, codes, decimal, slice_get, Some}
 use Rattle.charts.specs.Texts.{spaced}
 use Rattle.media.specs.Media.{free}
 use Rattle.orders.specs.Histories.{pos}
@@ -8,13 +8,12 @@ use Rattle.orders.specs.Drives.{Lowest}
 use Rattle.orders.specs.Rings.{Ring}
 use Rattle.listings.specs.Report.{line}
 use Rattle.words.specs.declared.faults.Fault.{Fault}
-use Rattle.words.specs.Sentences.{sentences}
 use Rattle.grammar.specs.Texts.{EventText, outputs, inputs, acts, InstanceText, ChartText}
 use Rattle.grammar.specs.Writing.{Writes}
 use Rattle.texts.specs.Names.{events_in, instance_names}
 use Rattle.texts.specs.Charted.{lists_of}
 use Rattle.texts.specs.Static.{Static}
-use Rattle.texts.specs.Readings.{read_as, greatest}
+use Rattle.texts.specs.FirstFault.{FirstFault}
 use Rattle.lines.specs.Lines.{refusal_line}
 
 -- the word for an event's kind, and its message or action
@@ -66,4 +65,4 @@ pub data TellsText (text bytes : List ℕ) : Type 0 where
   -- or one that gets stuck
   gets_stuck : (c : ChartText) → Writes text c → Static c → TellsRing c bytes → TellsText text bytes
   -- or it writes no such chart: told is the number of its first fault, and the byte where it stands
-  refused : (f : Fault) → ((c : ChartText) → Writes text c → Static c → ⊥) → read_as greatest (sentences text) ≡ Err f → bytes ≡ refusal_line f → TellsText text bytes
+  refused : (f : Fault) → FirstFault text f → bytes ≡ refusal_line f → TellsText text bytes

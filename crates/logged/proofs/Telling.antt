@@ -11,9 +11,9 @@ use Rattle.words.specs.Sentences.{sentences}
 use Rattle.items.specs.Surveys.{items_in}
 use Rattle.texts.specs.Charted.{lists_of}
 use Rattle.texts.specs.Readings.{Answer, read_as, tables_of, greatest}
-use Rattle.texts.proofs.Taking.{takes_ok, takes_err}
+use Rattle.texts.proofs.Taking.{takes_ok}
+use Rattle.texts.proofs.Fitting.{first_fault}
 use Rattle.judged.specs.Shown.{step_lines}
-use Rattle.judged.proofs.Fitting.{room_enough}
 use Rattle.judged.proofs.Matching.{chart_is, steps_told}
 use Rattle.logged.specs.Taken.{TakenFrom, more, over, TakenOf, headed, headless, instances_of}
 use Rattle.logged.specs.Shown.{ShowsRead, Shows}
@@ -42,7 +42,7 @@ pub tells : (text log bytes : List ℕ) → Shows text log bytes → TellsLog te
 tells text log bytes h = go (read_as greatest (sentences text)) refl h
   where
     go : (r : Result Answer Fault) → read_as greatest (sentences text) ≡ r → ShowsRead text r log bytes → TellsLog text log bytes
-    go (Err f) read h = refused f (λ c w k. room_enough c k (takes_err text greatest f read c w k).1) read h
+    go (Err f) read h = refused f (first_fault text f read) h
     go (Ok a) read h =
         let t = tables_of greatest (items_in (sentences text)) in
         let k = takes_ok text greatest a t read refl in

@@ -20,3 +20,4 @@ pub mod Broken
 pub mod Placing
 pub mod Samples
 pub mod Readable
+pub mod Fitting

@@ -16,3 +16,4 @@ pub mod Charted
 pub mod Static
 pub mod Builds
 pub mod Takes
+pub mod FirstFault

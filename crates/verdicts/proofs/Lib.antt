@@ -2,3 +2,4 @@ pub mod Rowed
 pub mod Readable
 pub mod Judged
 pub mod Followed
+pub mod Telling

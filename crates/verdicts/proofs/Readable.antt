@@ -52,12 +52,14 @@ index_padded z (x ∷ xs) n (suc i) = index_padded z xs n i
 pub members_padded : (names : List Name) → member_of (padded no_name 32 names) ≡ member_of names
 members_padded names = fun_ext (λ i. ap (member i) (index_padded no_name names _ i))
 
-stuck_padded : (names : List Name) (ring : List ℕ) (j : Judgement) → j ≡ stuck (padded no_name 32 names) ring → j ≡ stuck names ring
-stuck_padded names ring j is = is ∙ ap (λ (f : ℕ → Member). record { word = 2; number = 0; byte = 0; count = length ring; ring = padded no_member 32 (map f ring) }) (members_padded names)
+-- names that give the same rows are told alike
+module _ (names others : List Name) (same : member_of names ≡ member_of others) where
+  stuck_same : (ring : List ℕ) (j : Judgement) → j ≡ stuck names ring → j ≡ stuck others ring
+  stuck_same ring j is = is ∙ ap (λ (f : ℕ → Member). record { word = 2; number = 0; byte = 0; count = length ring; ring = padded no_member 32 (map f ring) }) same
 
-judges_padded : (L : List (List Event)) (names : List Name) (j : Judgement) → Judges L (padded no_name 32 names) j → Judges L names j
-judges_padded L names j (runs_by w full is) = runs_by w full is
-judges_padded L names j (stuck_by ring s is) = stuck_by ring s (stuck_padded names ring j is)
+  pub judges_same : (L : List (List Event)) (j : Judgement) → Judges L names j → Judges L others j
+  judges_same L j (runs_by w full is) = runs_by w full is
+  judges_same L j (stuck_by ring s is) = stuck_by ring s (stuck_same ring j is)
 
 -- what tables hold of a text are its lists and its names
 pub lists_held : (text : List ℕ) (c : Charted) → Holds text c → lists_in c ≡ lists_of text
@@ -65,4 +67,4 @@ lists_held text c h = ap (λ (ns : List ℕ). table_lists ns (take c.count c.eve
 
 pub judges_held : (text : List ℕ) (c : Charted) (j : Judgement) → Holds text c → Judges (lists_in c) c.names j → Judges (lists_of text) (names_of text) j
 judges_held text c j h judges =
-    judges_padded (lists_of text) (names_of text) j (subst₂ (λ (L : List (List Event)) (names : List Name). Judges L names j) (lists_held text c h) h.names judges)
+    judges_same (padded no_name 32 (names_of text)) (names_of text) (members_padded (names_of text)) (lists_of text) j (subst₂ (λ (L : List (List Event)) (names : List Name). Judges L names j) (lists_held text c h) h.names judges)

@@ -3,3 +3,4 @@ pub mod Charts
 pub mod Kept
 pub mod Judging
 pub mod Checking
+pub mod Told

@@ -5,6 +5,7 @@ ghost use Rattle.logs.specs.declared.parts.Refusal.TheVariants.{Spoiled};
 ghost use Rattle.logs.specs.declared.parts.Verdict.{Verdict};
 ghost use Rattle.verdicts.specs.Kept.{lists_in};
 ghost use Rattle.verdicts.specs.Checking.{Checked, ChecksLog, Says};
+ghost use Rattle.verdicts.specs.Told.{TellsLog};
 
 use crate::answers::LogAnswer;
 use crate::charted::Charted;
@@ -38,7 +39,8 @@ impl Charted {
 
 // Reads a chart text and follows a log of its chart, where messages may arrive in any order: whether the log is full or a part; or why the text or the log is refused.
 pub fn check_log_text(text: &[u8], log: &[u8]) -> LogAnswer
-    ensures { ChecksLog text.now log.now result }
+    ensures checks { ChecksLog text.now log.now result }
+    ensures tells { TellsLog text.now log.now result }
 {
     match Charted::of(text) {
         Ok(chart) => chart.check_log(log),

@@ -2,6 +2,7 @@ ghost use Rattle.std.specs.Prelude.{◌≡◌, ◌≤◌, length};
 ghost use Rattle.verdicts.specs.Answers.{stuck};
 ghost use Rattle.verdicts.specs.Kept.{lists_in};
 ghost use Rattle.verdicts.specs.Judging.{Judges, JudgesText};
+ghost use Rattle.verdicts.specs.Told.{TellsJudgement};
 
 use crate::answers::{Judgement, STUCK};
 use crate::charted::Charted;
@@ -44,7 +45,8 @@ impl Charted {
 
 // Reads a chart text and judges a new run of its chart, where messages may arrive in any order: whether it runs to its end, or gets stuck and in which ring; or why the text is refused.
 pub fn judge_text(text: &[u8]) -> Judgement
-    ensures { JudgesText text.now result }
+    ensures judges { JudgesText text.now result }
+    ensures tells { TellsJudgement text.now result }
 {
     match Charted::of(text) {
         Ok(chart) => chart.judge(),

@@ -1,15 +1,19 @@
--- The tables have greatest for every chart that keeps the rules.
-use Rattle.std.proofs.Common.{◌≡◌, ℕ, ◌+◌, ◌≤◌, Bool, true, false, cond, List, [], ◌∷◌, ◌++◌, length, map, fold, flat_map, inl, inr, refl, arith}
+-- Every chart that keeps the rules has room in the greatest tables.
+use Rattle.std.proofs.Common.{◌≡◌, ℕ, ◌+◌, ◌≤◌, Bool, true, false, cond, List, [], ◌∷◌, ◌++◌, length, map, fold, flat_map, Err, inl, inr, refl, arith}
 use Rattle.std.proofs.lemmas.List.{length-append, length-map}
 use Rattle.std.proofs.lemmas.List.Sums.{sum_by-cons}
 use Rattle.charts.specs.declared.parts.Event.{Event}
 use Rattle.charts.specs.Lists.{size}
+use Rattle.words.specs.declared.faults.Fault.{Fault}
+use Rattle.words.specs.Sentences.{sentences}
 use Rattle.grammar.specs.Texts.{EventText, outputs, inputs, acts, InstanceText, ChartText}
 use Rattle.texts.specs.Names.{has, with_name, message_of, action_of, events_in, instance_names}
 use Rattle.texts.specs.Charted.{event_in, lists_of}
 use Rattle.texts.specs.Static.{Static}
 use Rattle.texts.specs.Takes.{TooShortFor}
-use Rattle.texts.specs.Readings.{greatest}
+use Rattle.texts.specs.Readings.{read_as, greatest}
+use Rattle.texts.specs.FirstFault.{FirstFault}
+use Rattle.texts.proofs.Taking.{takes_err}
 
 -- as many events as the text has
 pub size_said : (f : EventText → Event) (ns : List InstanceText) → size (map (λ (m : InstanceText). map f m.events) ns) ≡ length (flat_map (λ (m : InstanceText). m.events) ns)
@@ -43,7 +47,7 @@ one_action (outputs m p) = omega arith
 one_action (inputs m p) = omega arith
 one_action (acts n) = omega arith
 
-pub room_enough : (c : ChartText) → Static c → TooShortFor greatest c → ⊥
+room_enough : (c : ChartText) → Static c → TooShortFor greatest c → ⊥
 room_enough c k short =
     let i = k.sound.few_instances in
     let e = k.sound.few_events in
@@ -63,3 +67,7 @@ room_enough c k short =
         ]
       ]
     ]
+
+-- so a text that is refused by them writes none
+pub first_fault : (text : List ℕ) (f : Fault) → read_as greatest (sentences text) ≡ Err f → FirstFault text f
+first_fault text f reads = record { unwritten = λ c w k. room_enough c k (takes_err text greatest f reads c w k).1; first = reads }
