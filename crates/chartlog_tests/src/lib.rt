@@ -2,12 +2,12 @@
 #![tactic(auto)]
 
 #[cfg(test)]
+mod chart_texts;
+#[cfg(test)]
 mod parts;
 #[cfg(test)]
 mod refused;
 #[cfg(test)]
 mod shown;
-#[cfg(test)]
-mod texts;
 #[cfg(test)]
 mod waits;
