@@ -8,21 +8,35 @@ use std::time::Instant;
 use tables::Table;
 use texts::{NO_NAME, Reading, read};
 
+// Outputs of instance i to the next one.
+fn add_outputs(text: &mut String, i: u16, next: u16, messages: u16) -> Result<(), AllocError> {
+    for m in 0..messages {
+        write!(text, "out m{i}x{m} to i{next};")?;
+    }
+    Ok(())
+}
+
+// Inputs from the instance before.
+fn add_inputs(text: &mut String, before: u16, messages: u16) -> Result<(), AllocError> {
+    for m in 0..messages {
+        write!(text, "in m{before}x{m} from i{before};")?;
+    }
+    Ok(())
+}
+
 // The text of a ring of instances: each outputs so many messages to the next, and inputs as many from the one before.
 fn ring_text(heap: Global, instances: u16, messages: u16) -> Result<String, AllocError> {
     let count = instances.max(1);
     let mut text = String::new(heap);
     write!(text, "msc ring;")?;
     for i in 0..count {
-        let next = i.wrapping_add(1) % count;
-        let before = i.wrapping_add(count).wrapping_sub(1) % count;
         write!(text, "instance i{i};")?;
-        for m in 0..messages {
-            write!(text, "out m{i}x{m} to i{next};")?;
-        }
-        for m in 0..messages {
-            write!(text, "in m{before}x{m} from i{before};")?;
-        }
+        add_outputs(&mut text, i, i.wrapping_add(1) % count, messages)?;
+        add_inputs(
+            &mut text,
+            i.wrapping_add(count).wrapping_sub(1) % count,
+            messages,
+        )?;
         write!(text, "endinstance;")?;
     }
     write!(text, "endmsc;")?;
@@ -91,8 +105,8 @@ fn time_ring(rt: &HostRuntime, instances: u16, messages: u16) -> anyhow::Result<
     time_table(rt, &reading, &lengths, &events)
 }
 
-pub(crate) fn measure_growing(rt: &HostRuntime) -> anyhow::Result<()> {
-    rt.println("microseconds:")?;
+// Rings of 2, 9 and 32 instances with 256 to 4,096 events.
+fn measure_rings(rt: &HostRuntime) -> anyhow::Result<()> {
     rt.println(
         "| instances | events | bytes of text | read | new run | judged | all latest places | |",
     )?;
@@ -102,6 +116,11 @@ pub(crate) fn measure_growing(rt: &HostRuntime) -> anyhow::Result<()> {
             time_ring(rt, instances, events / (2 * instances))?;
         }
     }
+    Ok(())
+}
+
+// Piles of one to eight joins.
+fn measure_piles(rt: &HostRuntime) -> anyhow::Result<()> {
     rt.println("| joins | events | new run | judged | all latest places | |")?;
     rt.println("|---|---|---|---|---|---|")?;
     for joins in 1..=8u8 {
@@ -113,4 +132,10 @@ pub(crate) fn measure_growing(rt: &HostRuntime) -> anyhow::Result<()> {
         time_chart(rt, &chart)?;
     }
     Ok(())
+}
+
+pub(crate) fn measure_growing(rt: &HostRuntime) -> anyhow::Result<()> {
+    rt.println("microseconds:")?;
+    measure_rings(rt)?;
+    measure_piles(rt)
 }

@@ -5,7 +5,7 @@ mod growing;
 mod run_times;
 
 use crate::growing::measure_growing;
-use crate::run_times::measure_runs;
+use crate::run_times::{add_messages, measure_runs};
 use charts::{Chart, Event, Kind, Peer};
 use std::alloc::{AllocError, Global};
 use std::env;
@@ -18,15 +18,16 @@ const INSTANCES: u16 = 32;
 fn ring(heap: Global) -> Result<Vec<Event>, AllocError> {
     let mut events = Vec::new(heap);
     for i in 0..INSTANCES {
+        let next = Peer::Instance(((i + 1) % INSTANCES) as u8);
         let before = (i + INSTANCES - 1) % INSTANCES;
-        for m in 0..64u16 {
-            let peer = Peer::Instance(((i + 1) % INSTANCES) as u8);
-            events.push(Event::new(Kind::Output, peer, i * 64 + m))?;
-        }
-        for m in 0..64u16 {
-            let peer = Peer::Instance(before as u8);
-            events.push(Event::new(Kind::Input, peer, before * 64 + m))?;
-        }
+        add_messages(&mut events, Kind::Output, next, i * 64, 64)?;
+        add_messages(
+            &mut events,
+            Kind::Input,
+            Peer::Instance(before as u8),
+            before * 64,
+            64,
+        )?;
     }
     Ok(events)
 }

@@ -9,6 +9,20 @@ use std::alloc::{AllocError, Global};
 use std::time::Instant;
 use tables::Table;
 
+// So many events of one kind with one peer, of the messages from a first one on.
+pub(crate) fn add_messages(
+    events: &mut Vec<Event>,
+    kind: Kind,
+    peer: Peer,
+    first: u16,
+    messages: u16,
+) -> Result<(), AllocError> {
+    for m in 0..messages {
+        events.push(Event::new(kind, peer, first.wrapping_add(m)))?;
+    }
+    Ok(())
+}
+
 // So many pairs of instances; in each pair the first outputs so many messages to the second, which inputs them in turn.
 fn pairs(heap: Global, couples: u8, messages: u16) -> Result<Flat, AllocError> {
     let mut lengths = Vec::new(heap);
@@ -16,16 +30,20 @@ fn pairs(heap: Global, couples: u8, messages: u16) -> Result<Flat, AllocError> {
     for couple in 0..couples.min(16) {
         let first = couple * 2;
         let base = u16::from(couple).wrapping_mul(messages);
-        for m in 0..messages {
-            events.push(Event::new(
-                Kind::Output,
-                Peer::Instance(first + 1),
-                base.wrapping_add(m),
-            ))?;
-        }
-        for m in 0..messages {
-            events.push(Event::new(Kind::Input, Peer::Instance(first), base.wrapping_add(m)))?;
-        }
+        add_messages(
+            &mut events,
+            Kind::Output,
+            Peer::Instance(first + 1),
+            base,
+            messages,
+        )?;
+        add_messages(
+            &mut events,
+            Kind::Input,
+            Peer::Instance(first),
+            base,
+            messages,
+        )?;
         lengths.push(messages)?;
         lengths.push(messages)?;
     }
