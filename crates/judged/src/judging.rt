@@ -1,32 +1,31 @@
 ghost use Rattle.std.specs.Prelude.{◌≡◌, Ok, IfOk};
 ghost use Rattle.words.specs.Sentences.{sentences};
-ghost use Rattle.texts.specs.Readings.{Reads, tables, greatest};
+ghost use Rattle.texts.specs.Readings.{Reads, greatest};
+ghost use Rattle.texts.specs.Roomy.{held};
 ghost use Rattle.judged.specs.Shown.{Shows};
 ghost use Rattle.judged.specs.Told.{TellsText};
 ghost use Rattle.lines.specs.Lines.{refusal_line};
 
 use crate::adding::add_refusal;
 use crate::listed::listed_lines;
-use charts::{Event, MOST_EVENTS, MOST_INSTANCES, NO_EVENT};
 use lines::Listing;
 use std::alloc::{AllocError, Global};
-use texts::{NO_NAME, Name, Reading, read};
+use texts::{Reading, TextTables};
 use words::Fault;
 
 // The lines of a text that was read into tables.
-fn reading_lines(
-    heap: Global,
-    reading: Reading,
-    lengths: &[u16],
-    events: &[Event],
-    instances: &[Name],
-    messages: &[Name],
-    actions: &[Name],
-) -> Result<Vec<u8>, AllocError>
-    requires { Reads (sentences reading.text.now) greatest (Ok reading) (tables lengths.now events.now instances.now messages.now actions.now) }
+fn reading_lines(heap: Global, reading: Reading, tables: &TextTables) -> Result<Vec<u8>, AllocError>
+    requires { Reads (sentences reading.text.now) greatest (Ok reading) (held tables.now) }
     ensures { IfOk result (λ lines. Shows reading.entry.text.now lines.items) }
 {
-    let Some(listing) = Listing::of(reading, lengths, events, instances, messages, actions) else {
+    let Some(listing) = Listing::of(
+        reading,
+        &tables.lengths,
+        &tables.events,
+        &tables.instances,
+        &tables.messages,
+        &tables.actions,
+    ) else {
         unreachable!();
     };
     listed_lines(heap, &listing)
@@ -45,22 +44,8 @@ fn fault_lines(heap: Global, fault: Fault) -> Result<Vec<u8>, AllocError>
 fn shown_lines(heap: Global, text: &[u8]) -> Result<Vec<u8>, AllocError>
     ensures { IfOk result (λ lines. Shows text.now lines.items) }
 {
-    let mut lengths = [0; MOST_INSTANCES];
-    let mut events = [NO_EVENT; MOST_EVENTS];
-    let mut instances = [NO_NAME; MOST_INSTANCES];
-    let mut messages = [NO_NAME; MOST_EVENTS];
-    let mut actions = [NO_NAME; MOST_EVENTS];
-    match read(
-        text,
-        &mut lengths,
-        &mut events,
-        &mut instances,
-        &mut messages,
-        &mut actions,
-    ) {
-        Ok(reading) => reading_lines(
-            heap, reading, &lengths, &events, &instances, &messages, &actions,
-        ),
+    match TextTables::read(text) {
+        Ok((reading, tables)) => reading_lines(heap, reading, &tables),
         Err(fault) => fault_lines(heap, fault),
     }
 }

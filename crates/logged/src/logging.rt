@@ -1,32 +1,32 @@
 ghost use Rattle.std.specs.Prelude.{◌≡◌, Ok, IfOk};
 ghost use Rattle.words.specs.Sentences.{sentences};
-ghost use Rattle.texts.specs.Readings.{Reads, tables, greatest};
+ghost use Rattle.texts.specs.Readings.{Reads, greatest};
+ghost use Rattle.texts.specs.Roomy.{held};
 ghost use Rattle.lines.specs.Lines.{refusal_line};
 ghost use Rattle.lines.specs.Listings.{HoldsRows};
 ghost use Rattle.logged.specs.Shown.{Shows};
 ghost use Rattle.logged.specs.Told.{TellsLog};
 
 use crate::listed::log_lines;
-use charts::{Event, MOST_EVENTS, MOST_INSTANCES, NO_EVENT};
 use judged::add_refusal;
 use lines::Listing;
 use std::alloc::{AllocError, Global};
-use texts::{NO_NAME, Name, Reading, read};
+use texts::{Reading, TextTables};
 use words::Fault;
 
 // The listing of a text that was read into tables.
-fn listing_of<'t, 'a>(
-    reading: Reading<'t>,
-    lengths: &'a [u16],
-    events: &'a [Event],
-    instances: &'a [Name],
-    messages: &'a [Name],
-    actions: &'a [Name],
-) -> Listing<'t, 'a>
-    requires { Reads (sentences reading.text.now) greatest (Ok reading) (tables lengths.now events.now instances.now messages.now actions.now) }
-    ensures { HoldsRows reading.entry lengths.now events.now instances.now messages.now actions.now result }
+fn listing_of<'t, 'a>(reading: Reading<'t>, tables: &'a TextTables) -> Listing<'t, 'a>
+    requires { Reads (sentences reading.text.now) greatest (Ok reading) (held tables.now) }
+    ensures { HoldsRows reading.entry tables.now.lengths tables.now.events tables.now.instances tables.now.messages tables.now.actions result }
 {
-    let Some(listing) = Listing::of(reading, lengths, events, instances, messages, actions) else {
+    let Some(listing) = Listing::of(
+        reading,
+        &tables.lengths,
+        &tables.events,
+        &tables.instances,
+        &tables.messages,
+        &tables.actions,
+    ) else {
         unreachable!();
     };
     listing
@@ -45,21 +45,9 @@ fn fault_lines(heap: Global, fault: Fault) -> Result<Vec<u8>, AllocError>
 fn shown_lines(heap: Global, text: &[u8], log: &[u8]) -> Result<Vec<u8>, AllocError>
     ensures { IfOk result (λ lines. Shows text.now log.now lines.items) }
 {
-    let mut lengths = [0; MOST_INSTANCES];
-    let mut events = [NO_EVENT; MOST_EVENTS];
-    let mut instances = [NO_NAME; MOST_INSTANCES];
-    let mut messages = [NO_NAME; MOST_EVENTS];
-    let mut actions = [NO_NAME; MOST_EVENTS];
-    match read(
-        text,
-        &mut lengths,
-        &mut events,
-        &mut instances,
-        &mut messages,
-        &mut actions,
-    ) {
-        Ok(reading) => {
-            let listing = listing_of(reading, &lengths, &events, &instances, &messages, &actions);
+    match TextTables::read(text) {
+        Ok((reading, tables)) => {
+            let listing = listing_of(reading, &tables);
             log_lines(heap, &listing, log)
         }
         Err(fault) => fault_lines(heap, fault),

@@ -1,12 +1,12 @@
 // Measures how reading a chart text, judging its chart and all latest places grow with the chart.
 use crate::run_times::{pile, places};
-use charts::{Chart, Event, MOST_EVENTS, MOST_INSTANCES, NO_EVENT};
+use charts::{Chart, MOST_EVENTS};
 use media::Free;
 use runs::{Run, Verdict};
 use std::alloc::{AllocError, Global};
 use std::time::Instant;
 use tables::Table;
-use texts::{NO_NAME, Reading, read};
+use texts::{Reading, TextTables};
 
 // Outputs of instance i to the next one.
 fn add_outputs(text: &mut String, i: u16, next: u16, messages: u16) -> Result<(), AllocError> {
@@ -64,15 +64,10 @@ fn time_chart<C: Chart>(rt: &HostRuntime, chart: &C) -> anyhow::Result<()> {
 }
 
 // The same of the chart over the rows in use.
-fn time_table(
-    rt: &HostRuntime,
-    reading: &Reading,
-    lengths: &[u16],
-    events: &[Event],
-) -> anyhow::Result<()> {
+fn time_table(rt: &HostRuntime, reading: &Reading, tables: &TextTables) -> anyhow::Result<()> {
     match (
-        lengths.get(..reading.instances),
-        events.get(..reading.events),
+        tables.lengths.get(..reading.instances),
+        tables.events.get(..reading.events),
     ) {
         (Some(lengths), Some(events)) => time_chart(rt, &Table::new(lengths, events)),
         (_, _) => Ok(()),
@@ -83,26 +78,15 @@ fn time_table(
 fn time_ring(rt: &HostRuntime, instances: u16, messages: u16) -> anyhow::Result<()> {
     let text = ring_text(rt.alloc(), instances, messages)?;
     let bytes = text.as_bytes();
-    let mut lengths = [0; MOST_INSTANCES];
-    let mut events = [NO_EVENT; MOST_EVENTS];
-    let mut names = [NO_NAME; MOST_INSTANCES];
-    let mut messages = [NO_NAME; MOST_EVENTS];
     let start = Instant::now(rt)?;
-    let answer = read(
-        bytes,
-        &mut lengths,
-        &mut events,
-        &mut names,
-        &mut messages,
-        &mut [],
-    );
+    let answer = TextTables::read(bytes);
     let took = start.elapsed(rt)?.as_micros();
-    let Ok(reading) = answer else {
+    let Ok((reading, tables)) = answer else {
         return Ok(());
     };
     let size = bytes.len();
     print!(rt; "| {instances} | {} | {size} | {took} |", reading.events)?;
-    time_table(rt, &reading, &lengths, &events)
+    time_table(rt, &reading, &tables)
 }
 
 // Rings of 2, 9 and 32 instances with 256 to 4,096 events.

@@ -17,3 +17,4 @@ pub mod Static
 pub mod Builds
 pub mod Takes
 pub mod FirstFault
+pub mod Roomy

@@ -2,9 +2,8 @@ ghost use Rattle.std.specs.Prelude.{◌≡◌, take};
 ghost use Rattle.verdicts.specs.Charts.{ReadsChart};
 
 use crate::charted::Charted;
-use charts::{MOST_EVENTS, MOST_INSTANCES, NO_EVENT};
 use tables::Table;
-use texts::{NO_NAME, read};
+use texts::TextTables;
 use words::Fault;
 
 impl Charted {
@@ -12,19 +11,13 @@ impl Charted {
     pub(crate) fn of(text: &[u8]) -> Result<Charted, Fault>
         ensures { ReadsChart text.now result }
     {
-        let mut lengths = [0; MOST_INSTANCES];
-        let mut events = [NO_EVENT; MOST_EVENTS];
-        let mut names = [NO_NAME; MOST_INSTANCES];
-        let mut messages = [NO_NAME; MOST_EVENTS];
-        let mut actions = [NO_NAME; MOST_EVENTS];
-        let reading = read(
-            text,
-            &mut lengths,
-            &mut events,
-            &mut names,
-            &mut messages,
-            &mut actions,
-        )?;
+        let (reading, tables) = TextTables::read(text)?;
+        let TextTables {
+            lengths,
+            events,
+            instances: names,
+            ..
+        } = tables;
         Ok(Charted {
             lengths,
             events,

@@ -6,6 +6,7 @@ use Rattle.plays.proofs.drawing.push_chart.Goals as goal
 
 pub returns : goal.returns
 returns c =
-    let reads = c.in_ok-reading.ensures.reads in
-    chart_put (sentences c.args.text.now) (answer_in c.in_ok-reading.reading) c.read.new.lengths c.read.new.events _ _ c.args.pile.now c.push.new.self
+    let read = c.in_ok-reading in
+    let reads = read.ensures.reads in
+    chart_put (sentences c.args.text.now) (answer_in read.reading) read.tables.lengths read.tables.events _ _ c.args.pile.now c.push.new.self
     reads.0 (ap (λ t. t.lengths) reads.1) (ap (λ t. t.events) reads.1) (search rules)

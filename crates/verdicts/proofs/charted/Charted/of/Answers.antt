@@ -1,16 +1,16 @@
-use Rattle.texts.specs.Readings.{tables}
+use Rattle.texts.specs.Roomy.{held}
 use Rattle.verdicts.proofs.Readable.{in_use}
 use Rattle.verdicts.proofs.charted.Charted.of.Goals as goal
 
 pub invariant_of-result-clause-sound : goal.invariant_of-result-clause-sound
 invariant_of-result-clause-sound c =
-    let n = c.read.new in
-    let e = c.in_ok-reading.ensures.reads in
-    (in_use c.args.text.now _ (tables n.lengths n.events n.instances n.messages n.actions) e.0 e.1).sound
+    let read = c.in_ok-reading in
+    let e = read.ensures.reads in
+    (in_use c.args.text.now _ (held read.tables) e.0 e.1).sound
 
 pub returns : goal.returns
 returns c =
-    let n = c.read.new in
-    let e = c.in_ok-reading.ensures.reads in
-    let u = in_use c.args.text.now _ (tables n.lengths n.events n.instances n.messages n.actions) e.0 e.1 in
+    let read = c.in_ok-reading in
+    let e = read.ensures.reads in
+    let u = in_use c.args.text.now _ (held read.tables) e.0 e.1 in
     ((_, e.0), record { lengths = u.lengths_are; events = u.events_are; names = u.names_are })
