@@ -51,7 +51,7 @@ pub(crate) fn add_verdict(
 }
 
 // The line of a fault.
-pub fn add_refusal(lines: &mut Vec<u8>, fault: Fault) -> Result<(), AllocError>
+pub(crate) fn add_refusal(lines: &mut Vec<u8>, fault: Fault) -> Result<(), AllocError>
     ensures { IfOk result (λ _. lines.new.items ≡ lines.old.items ++ refusal_line fault) }
 {
     let mut line = [0; LINE_ROOM];

@@ -32,7 +32,7 @@ fn reading_lines(heap: Global, reading: Reading, tables: &TextTables) -> Result<
 }
 
 // The line of a text that is refused.
-fn fault_lines(heap: Global, fault: Fault) -> Result<Vec<u8>, AllocError>
+pub fn fault_lines(heap: Global, fault: Fault) -> Result<Vec<u8>, AllocError>
     ensures { IfOk result (λ lines. lines.items ≡ refusal_line fault) }
 {
     let mut lines = Vec::new(heap);

@@ -6,6 +6,5 @@ mod judging;
 mod listed;
 mod steps;
 
-pub use adding::add_refusal;
-pub use judging::judged_lines;
+pub use judging::{fault_lines, judged_lines};
 pub use steps::add_steps;

@@ -2,17 +2,15 @@ ghost use Rattle.std.specs.Prelude.{◌≡◌, Ok, IfOk};
 ghost use Rattle.words.specs.Sentences.{sentences};
 ghost use Rattle.texts.specs.Readings.{Reads, greatest};
 ghost use Rattle.texts.specs.Roomy.{held};
-ghost use Rattle.lines.specs.Lines.{refusal_line};
 ghost use Rattle.lines.specs.Listings.{HoldsRows};
 ghost use Rattle.logged.specs.Shown.{Shows};
 ghost use Rattle.logged.specs.Told.{TellsLog};
 
 use crate::listed::log_lines;
-use judged::add_refusal;
+use judged::fault_lines;
 use lines::Listing;
 use std::alloc::{AllocError, Global};
 use texts::{Reading, TextTables};
-use words::Fault;
 
 // The listing of a text that was read into tables.
 fn listing_of<'t, 'a>(reading: Reading<'t>, tables: &'a TextTables) -> Listing<'t, 'a>
@@ -30,15 +28,6 @@ fn listing_of<'t, 'a>(reading: Reading<'t>, tables: &'a TextTables) -> Listing<'
         unreachable!();
     };
     listing
-}
-
-// The line of a text that is refused.
-fn fault_lines(heap: Global, fault: Fault) -> Result<Vec<u8>, AllocError>
-    ensures { IfOk result (λ lines. lines.items ≡ refusal_line fault) }
-{
-    let mut lines = Vec::new(heap);
-    add_refusal(&mut lines, fault)?;
-    Ok(lines)
 }
 
 // The lines of a log and of a text by its tables.
