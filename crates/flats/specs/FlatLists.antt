@@ -1,32 +1,36 @@
--- The chart that owns its events: a verdict, and a column of events for each instance.
-use Rattle.std.specs.Prelude.{◌≡◌, List, [], ◌∷◌, map, length, vec_items, Some, None, Ok, Err, Option, Result, refl, ℕ}
-use Rattle.std.specs.Global.{Vec}
-use Rattle.std.proofs.Common.{arith}
+-- The chart that owns its events: a verdict, the length of each instance's column, and the events, instance after instance.
+use Rattle.std.specs.Prelude.{◌≡◌, ℕ, ◌<◌, List, map, length, take, Some, Ok, Err, sum, Option, Result, slice_index_or, refl}
 use Rattle.charts.specs.declared.parts.Event.{Event}
 use Rattle.charts.specs.declared.faults.Fault.{Fault}
 use Rattle.charts.specs.declared.parts.Summary.{Summary}
-use Rattle.charts.specs.Judged.{Judged}
+use Rattle.charts.specs.Judged.{Judged, unspoiled}
+use Rattle.checks.specs.Cut.{cut}
 use Rattle.checks.specs.Checked.{checked}
-use Rattle.checks.specs.Cut.{in_one}
-use Rattle.checks.proofs.Joined.{checked_joined}
+use Rattle.tables.specs.TableLists.{table_judged}
+use Rattle.flats.specs.declared.columns.Column.{Column}
 
--- the fault that a verdict tells, or none
-abbrev pub fault_in : Result Summary Fault → Option Fault
-fault_in (Ok s) = None
-fault_in (Err f) = Some f
+-- a column without events
+abbrev pub no_column : Column
+no_column = record { start = 0; count = 0 }
 
--- the lists that the columns hold
-abbrev pub lists_in : List (Vec Event) → List (List Event)
-lists_in columns = map vec_items columns
+-- the number of events in each column
+abbrev pub counts : List Column → List ℕ
+counts cs = map (λ c. c.count) cs
 
--- what is wrong with lists beside a verdict: what the checks of a table find, or that a spoiled chart has instances
-abbrev pub wrong_with : Result Summary Fault → List (List Event) → Option Fault
-wrong_with (Ok s) L = checked (map length L) (in_one L)
-wrong_with (Err f) [] = None
-wrong_with (Err f) (es ∷ L) = Some f
+-- each column starts where the columns before it end
+abbrev pub Placed : List Column → Type 0
+Placed cs = (i : ℕ) → i < length cs → (slice_index_or cs i no_column).start ≡ sum (take i (counts cs))
+
+-- the fault that was copied, else what is wrong with the table
+abbrev pub flat_trouble : Result Summary Fault → List ℕ → List Event → Option Fault
+flat_trouble (Ok s) ns es = checked ns es
+flat_trouble (Err f) ns es = Some f
+
+-- the lists cut from the table, none where there is trouble
+abbrev pub flat_lists : Result Summary Fault → List ℕ → List Event → List (List Event)
+flat_lists v ns es = unspoiled (flat_trouble v ns es) (cut ns es)
 
 -- it owes what every chart owes, and gives it
-pub flat_judged : (v : Result Summary Fault) (L : List (List Event)) → wrong_with v L ≡ None → Judged (fault_in v) L
-flat_judged (Ok s) L e = checked_joined L e
-flat_judged (Err f) [] e = refl
-flat_judged (Err f) (es ∷ L) e = absurd (let z : ◌≡◌ {A = ℕ} 0 1 = cc in omega arith)
+pub flat_judged : (v : Result Summary Fault) (ns : List ℕ) (es : List Event) → Judged (flat_trouble v ns es) (flat_lists v ns es)
+flat_judged (Ok s) ns es = table_judged ns es
+flat_judged (Err f) ns es = refl

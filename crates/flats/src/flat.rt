@@ -1,67 +1,78 @@
-ghost use Rattle.std.specs.Prelude.{◌≡◌, None, IfOk};
+ghost use Rattle.std.specs.Prelude.{◌≡◌, IfOk};
 ghost use Rattle.charts.specs.Judged.{summed};
 ghost use Rattle.charts.specs.Lists.{column};
-ghost use Rattle.flats.specs.FlatLists.{fault_in, flat_judged, lists_in, wrong_with};
+ghost use Rattle.flats.specs.FlatLists.{counts, Placed, flat_trouble, flat_lists, flat_judged};
 
+use crate::columns::Column;
+use crate::copies::push_events;
 use charts::{Chart, Event, Fault, NO_EVENT, Summary};
 use std::alloc::{AllocError, Global};
 
-// A chart that owns its events: a column of them for each instance.
+// A chart that owns its events: a column for each instance, and the events, instance after instance.
 #[derive(Drop)]
 pub struct Flat {
-    columns: Vec<Vec<Event>>,
+    columns: Vec<Column>,
+    events: Vec<Event>,
     verdict: Result<Summary, Fault>,
-    ghost judged: { verdict ≡ summed (fault_in verdict) (lists_in columns.items) },
-    ghost sound: { wrong_with verdict (lists_in columns.items) ≡ None },
-}
-
-// The events of instance i. No `collect`: each push may want memory.
-fn column_of<C: Chart>(heap: Global, chart: &C, i: usize) -> Result<Vec<Event>, AllocError>
-    ensures { IfOk result (λ events. events.items ≡ column (C.lists chart.now) i) }
-{
-    let mut events = Vec::new(heap);
-    for k in 0..chart.count(i) {
-        events.push(chart.event(i, k))?;
-    }
-    Ok(events)
+    ghost placed: { Placed columns.items },
+    ghost judged: { verdict ≡ summed (flat_trouble verdict (counts columns.items) events.items) (flat_lists verdict (counts columns.items) events.items) },
 }
 
 impl Flat {
     // An owned copy of any chart. Want of memory says nothing.
     pub fn new<C: Chart>(heap: Global, chart: &C) -> Result<Flat, AllocError>
-        ensures { IfOk result (λ x. (fault_in x.verdict ≡ C.Chart.trouble chart.now) × (lists_in x.columns.items ≡ C.Chart.lists chart.now)) }
+        ensures { IfOk result (λ x. (flat_trouble x.verdict (counts x.columns.items) x.events.items ≡ C.Chart.trouble chart.now) × (flat_lists x.verdict (counts x.columns.items) x.events.items ≡ C.Chart.lists chart.now)) }
     {
         let mut columns = Vec::new(heap);
+        let mut events = Vec::new(heap);
         for i in 0..chart.width() {
-            columns.push(column_of(heap, chart, i)?)?;
+            columns.push(Column::new(&events, chart, i))?;
+            push_events(&mut events, chart, i)?;
         }
+        let verdict = chart.summary();
         Ok(Flat {
             columns,
-            verdict: chart.summary(),
+            events,
+            verdict,
         })
+    }
+
+    // The events of instance i, none where there is no such instance.
+    fn events_of(&self, i: usize) -> &[Event]
+        ensures { result.now ≡ column (flat_lists self.now.verdict (counts self.now.columns.items) self.now.events.items) i }
+    {
+        match self.verdict {
+            Ok(_) if i < self.columns.len() => {
+                let Column { start, count } = self.columns[i];
+                &self.events.as_slice()[start..start + count]
+            }
+            Ok(_) => &[],
+            Err(_) => &[],
+        }
     }
 }
 
 impl Chart for Flat {
-    ghost lists = { λ x. lists_in x.columns.items };
+    ghost lists = { λ x. flat_lists x.verdict (counts x.columns.items) x.events.items };
 
-    ghost trouble = { λ x. fault_in x.verdict };
+    ghost trouble = { λ x. flat_trouble x.verdict (counts x.columns.items) x.events.items };
 
-    ghost sound = { λ x. flat_judged x.verdict (lists_in x.columns.items) x.sound };
+    ghost sound = { λ x. flat_judged x.verdict (counts x.columns.items) x.events.items };
 
     fn summary(&self) -> Result<Summary, Fault> {
         self.verdict
     }
 
     fn count(&self, i: usize) -> usize {
-        self.columns.get(i).map_or(0, |events| events.len())
+        self.events_of(i).len()
     }
 
     fn event(&self, i: usize, k: usize) -> Event {
-        self.columns
-            .get(i)
-            .and_then(|events| events.get(k))
-            .copied()
-            .unwrap_or(NO_EVENT)
+        let events = self.events_of(i);
+        if k < events.len() {
+            events[k]
+        } else {
+            NO_EVENT
+        }
     }
 }

@@ -4,7 +4,7 @@ use Rattle.charts.specs.declared.parts.Event.{Event}
 use Rattle.charts.specs.declared.faults.Fault.{Fault}
 use Rattle.checks.specs.Checked.{checked}
 use Rattle.flats.specs.declared.flat.Flat.{Flat}
-use Rattle.flats.specs.FlatLists.{fault_in, lists_in}
+use Rattle.flats.specs.FlatLists.{counts, flat_trouble, flat_lists}
 use Rattle.joining.specs.After.{after_trouble, after_lists}
 use Rattle.joining.specs.Beside.{beside_trouble, beside_lists}
 use Rattle.joining.specs.Recast.{recast_trouble, recast_lists}
@@ -21,7 +21,7 @@ meaning f L = record { trouble = f; lists = L }
 
 -- of an owned copy
 abbrev pub flat_meaning : Flat → Meaning
-flat_meaning x = meaning (fault_in x.verdict) (lists_in (vec_items x.columns))
+flat_meaning x = meaning (flat_trouble x.verdict (counts (vec_items x.columns)) (vec_items x.events)) (flat_lists x.verdict (counts (vec_items x.columns)) (vec_items x.events))
 
 -- of a table
 abbrev pub table_meaning : List ℕ → List Event → Meaning

@@ -1,19 +1,26 @@
-use Rattle.std.proofs.Common.{vec_items, ◌∙◌, arith}
-use Rattle.std.proofs.lemmas.List.{take_all}
-use Rattle.flats.specs.FlatLists.{lists_in}
-use Rattle.flats.proofs.Copied.{copies}
+use Rattle.std.proofs.Common.{vec_items, arith}
+use Rattle.flats.proofs.Copied.{copies, copied_verdict}
+use Rattle.flats.proofs.Turns.{firsts_none, firsts_more}
 use Rattle.flats.proofs.flat.Flat.new.Goals as goal
+
+pub loop-i-init : goal.loop-i-init
+loop-i-init g c = firsts_none _ _ _ c.new-columns.ensures.items c.new-events.ensures.items
+
+pub loop-i-preserved : goal.loop-i-preserved
+loop-i-preserved g c =
+    let L = g.C.Chart.lists c.args.chart.now in
+    let n = c.loop-i.events.ok.0 in
+    let e = c.new.ensures in
+    firsts_more _ _ (vec_items c.loop-i.events) _ c.new.result c.loop-i.i L (omega arith) c.loop-i.invariant (cc) c.in_ok-push.ensures.items c.in_ok-push_events.ensures
 
 pub invariant_of-result : goal.invariant_of-result
 invariant_of-result g c =
     let x = c.args.chart.now in
-    let all = c.loop-i.invariant ∙ take_all c.loop-i.i (g.C.Chart.lists x) (omega arith) in
-    let so = copies c.summary.result (g.C.Chart.trouble x) (g.C.Chart.lists x) (lists_in (vec_items c.loop-i.columns)) c.summary.ensures (g.C.Chart.sound x) all in
-    record { judged = so.judged; sound = so.sound }
+    let same = copies c.summary-verdict.result (vec_items c.loop-i.columns) (vec_items c.loop-i.events) c.loop-i.i (g.C.Chart.trouble x) (g.C.Chart.lists x) (g.C.Chart.sound x) c.summary-verdict.ensures (omega arith) c.loop-i.invariant in
+    record { placed = c.loop-i.invariant.placed; judged = copied_verdict _ _ _ _ _ same c.summary-verdict.ensures }
 
 pub returns : goal.returns
 returns g c =
     let x = c.args.chart.now in
-    let all = c.loop-i.invariant ∙ take_all c.loop-i.i (g.C.Chart.lists x) (omega arith) in
-    let so = copies c.summary.result (g.C.Chart.trouble x) (g.C.Chart.lists x) (lists_in (vec_items c.loop-i.columns)) c.summary.ensures (g.C.Chart.sound x) all in
-    (so.fault, all)
+    let same = copies c.summary-verdict.result (vec_items c.loop-i.columns) (vec_items c.loop-i.events) c.loop-i.i (g.C.Chart.trouble x) (g.C.Chart.lists x) (g.C.Chart.sound x) c.summary-verdict.ensures (omega arith) c.loop-i.invariant in
+    (same.trouble, same.lists)
