@@ -5,5 +5,6 @@ pub mod Begun
 pub mod Notes
 pub mod Partners
 pub mod Links
+pub mod Ranks
 pub mod Fillings
 pub mod Kept

@@ -6,9 +6,8 @@ use Rattle.copies.specs.declared.parts.Slot.{Slot}
 use Rattle.copies.specs.Grids.{no_slot, place_of}
 use Rattle.copies.specs.Kept.{grid_lists}
 use Rattle.copies.specs.Lists.{events_in}
-use Rattle.copies.specs.Slots.{slot_of}
 
--- the slots have the grid's events, and those of the first i instances have what is fixed of theirs
-pub record Filled (g : Grid) (i : ℕ) (ss : List Slot) : Type 0 where
+-- the slots have the grid's events, and those of the first i instances are what f says of them
+pub record Filled (f : ℕ → ℕ → Slot) (g : Grid) (i : ℕ) (ss : List Slot) : Type 0 where
   pub same : events_in ss ≡ events_in g.slots
-  pub filled : (j l : ℕ) → l < count_of (grid_lists g) j → j < i → slice_index_or ss (place_of g.columns j l) no_slot ≡ slot_of (grid_lists g) j l
+  pub filled : (j l : ℕ) → l < count_of (grid_lists g) j → j < i → slice_index_or ss (place_of g.columns j l) no_slot ≡ f j l

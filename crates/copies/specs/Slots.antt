@@ -1,9 +1,9 @@
 -- What a chart fixes of an event beforehand.
-use Rattle.std.specs.Prelude.{ℕ, Bool, cond, ◌&&◌, List, length, Some, None, Option, ◌==◌, nat_lt}
+use Rattle.std.specs.Prelude.{ℕ, Bool, cond, ◌&&◌, List, length, Some, None, Option, ◌==◌, nat_lt, nat_le}
 use Rattle.charts.specs.declared.parts.Event.{Event}
 use Rattle.charts.specs.Events.{output, input, is_message}
 use Rattle.charts.specs.Lists.{column, count_of, event_of}
-use Rattle.orders.specs.Passing.{passing}
+use Rattle.orders.specs.Passing.{output_to, passing}
 use Rattle.orders.specs.Deciding.{input_place, sent_at}
 use Rattle.copies.specs.declared.parts.Slot.{Slot}
 
@@ -23,6 +23,14 @@ ahead_of L i k e = cond (between L e && e.kind == input) (passing L e.peer i (se
 abbrev pub slot_of : List (List Event) → ℕ → ℕ → Slot
 slot_of L i k = record { event = event_of L i k; mate = mate_of L i (event_of L i k); ahead = ahead_of L i k (event_of L i k) }
 
--- the same where instance i has an event k, else none
+-- the same before the messages ahead of it are counted
+abbrev pub mated_of : List (List Event) → ℕ → ℕ → Slot
+mated_of L i k = record { event = event_of L i k; mate = mate_of L i (event_of L i k); ahead = 0 }
+
+-- the slot's event is an output to instance i whose input stands there at k or after it
+abbrev pub is_ahead : ℕ → ℕ → Slot → Bool
+is_ahead i k s = output_to i s.event && nat_le k s.mate
+
+-- event k of instance i with what is fixed of it, where the instance has an event k, else none
 abbrev pub slot_at : List (List Event) → ℕ → ℕ → Option Slot
 slot_at L i k = cond (nat_lt k (count_of L i)) (Some (slot_of L i k)) None

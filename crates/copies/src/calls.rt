@@ -15,7 +15,7 @@ impl Indexed {
         ensures fault { result.fault ≡ C.trouble chart.now }
     {
         let fault = chart.fault();
-        let grid = Grid::new(chart).linked();
+        let grid = Grid::new(chart).mated().ranked();
         Indexed { grid, fault }
     }
 

@@ -10,6 +10,7 @@ mod linking;
 mod noting;
 mod parts;
 mod places;
+mod ranking;
 
 pub use indexed::Indexed;
 pub use parts::{Column, NO_SLOT, Slot};

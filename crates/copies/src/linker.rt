@@ -5,9 +5,9 @@ use crate::grid::Grid;
 use messages::MessagePlaces;
 
 // A grid, and where the events of its messages stand on their instances.
-#[derive(Drop)]
+#[derive(Clone, Copy)]
 pub(crate) struct Linker<'g> {
     pub(crate) grid: &'g Grid,
-    pub(crate) places: MessagePlaces,
-    ghost noted: { Noted (grid_lists grid.now) places },
+    pub(crate) places: &'g MessagePlaces,
+    ghost noted: { Noted (grid_lists grid.now) places.now },
 }

@@ -28,14 +28,12 @@ fn note_column(places: &mut MessagePlaces, grid: &Grid, i: usize)
     }
 }
 
-// Where the events of all messages stand on their instances.
+// Notes the messages of all instances.
 #[tactic(auto, using(crate::proofs::Grids::grid_width))]
-pub(crate) fn note_messages(grid: &Grid) -> MessagePlaces
-    ensures { Noted (grid_lists grid.now) result }
+pub(crate) fn note_messages(places: &mut MessagePlaces, grid: &Grid)
+    ensures { Noted (grid_lists grid.now) places.new }
 {
-    let mut places = MessagePlaces::new();
     for i in 0..grid.width {
-        note_column(&mut places, grid, i);
+        note_column(places, grid, i);
     }
-    places
 }
