@@ -32,7 +32,7 @@ impl<A: Chart> Recast<A> {
             MatchOption result (es ≡ []) (λ j. es ≡ map (moved (to t) 0) (column L j)) }
     {
         match self.summary() {
-            Ok(size) if i < size.width => self.turn.back[i].map(usize::from),
+            Ok(size) if i < size.width => self.turn.first(i),
             _ => None,
         }
     }

@@ -1,16 +1,16 @@
-ghost use Rattle.std.specs.Prelude.{◌≡◌, ℕ, ◌<◌, ◌≤◌, length, None, unwrap_or, slice_index_or};
-ghost use Rattle.joining.specs.Recast.{from, turns, turns_below};
+ghost use Rattle.std.specs.Prelude.{◌≡◌, ℕ, ◌<◌, ◌≤◌, length, unwrap_or, slice_index_or};
+ghost use Rattle.joining.specs.Recast.{from, turns_below};
 
 use std::array;
 
-// The names that a table gives to instances, and back: the first instance of each name, if there is one.
+// The names that a table gives to instances, and back: the first instance of each name, 32 where there is none.
 #[derive(Clone, Copy)]
 pub(crate) struct Turn {
     pub(crate) to: [u8; 32],
-    pub(crate) back: [Option<u8>; 32],
+    back: [u8; 32],
     ghost names: { length to ≡ 32 },
     ghost places: { length back ≡ 32 },
-    ghost inverse: { (j : ℕ) → j < 32 → unwrap_or (slice_index_or back j None) 32 ≡ from to j },
+    ghost inverse: { (j : ℕ) → j < 32 → slice_index_or back j 0 ≡ from to j },
 }
 
 // The first instance that has the name j.
@@ -25,29 +25,28 @@ impl Turn {
     pub(crate) fn new(to: [u8; 32]) -> Turn
         ensures { result.to ≡ to }
     {
-        let back = array::from_fn(|j| first_named(&to, j as u8));
+        let back = array::from_fn(|j| first_named(&to, j as u8).unwrap_or(32));
         Turn { to, back }
     }
 
-    // The width comes from the chart at each call: a bounded number's type would be made here alone.
-    // Whether instance i has a name below the width, is the first to have it, and is the name of one below the width.
-    fn turns(&self, width: usize, i: usize) -> bool
-        requires few { width ≤ 32 }
-        requires within { i < width }
-        ensures { result ≡ turns self.now.to width i }
+    // The first instance that has the name j.
+    pub(crate) fn first(&self, j: usize) -> Option<usize>
+        requires { j < 32 }
+        ensures { unwrap_or result 32 ≡ from self.now.to j }
     {
-        let name = usize::from(self.to[i]);
-        name < width
-            && self.back[name] == Some(i as u8)
-            && self.back[i].is_some_and(|first| usize::from(first) < width)
+        let first = usize::from(self.back[j]);
+        (first < self.to.len()).then_some(first)
     }
 
-    // Whether the table is a permutation of the instances below the width.
+    // Whether the table is a permutation of the instances below the width: each name below it then has its first instance there.
+    // The width comes from the chart at each call: a bounded number's type would be made here alone.
     pub(crate) fn permutes(&self, width: usize) -> bool
         requires { width ≤ 32 }
         ensures { result ≡ turns_below self.now.to width width }
     {
-        (0..width).all(|i| self.turns(width, i))
+        self.back[..width]
+            .iter()
+            .all(|first| usize::from(*first) < width)
     }
 
     // The names back. A table has a byte for each, so 32 stands for a name that no instance has.
@@ -55,6 +54,6 @@ impl Turn {
         ensures places { length result ≡ 32 }
         ensures inverse { (j : ℕ) → j < 32 → slice_index_or result j 0 ≡ from self.now.to j }
     {
-        self.back.map(|first| first.unwrap_or(32))
+        self.back
     }
 }
