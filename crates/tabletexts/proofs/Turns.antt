@@ -1,13 +1,12 @@
 -- One turn of a loop that reads the pieces of a text, with what was read before them.
-use Rattle.std.proofs.Common.{◌≡◌, ℕ, ◌+◌, ◌<◌, true, false, cond, eqb, List, [], ◌∷◌, ◌++◌, length, get_or, drop, is_some, Some, None, Ok, Err, Option, Result, sym, refl, ap, ◌∙◌, append_assoc, append-nil, arith, Bor}
+use Rattle.std.proofs.Common.{◌≡◌, ℕ, ◌+◌, ◌<◌, true, false, cond, eqb, inl, inr, List, [], ◌∷◌, ◌++◌, length, get_or, drop, is_some, Some, None, Ok, Err, Option, unwrap_or, Result, sym, refl, ap, ◌∙◌, append_assoc, append-nil, arith, Bor}
 use Rattle.std.specs.List.{enumerate_from, onto_first}
 use Rattle.std.specs.Option.{ok_or}
-use Rattle.std.proofs.lemmas.List.{drop_all, drop_more, nil_from_length}
+use Rattle.std.proofs.lemmas.List.{drop_all, drop_more}
 use Rattle.std.proofs.lemmas.List.FromFn.{get_or-enumerate_from, length-enumerate_from}
 use Rattle.tabletexts.specs.Outcome.{then}
 use Rattle.tabletexts.specs.Pieces.{pieces, pieces_after}
-use Rattle.tabletexts.specs.Table.{number_in, lengths_in, event_in, event_on, events_from}
-use Rattle.charts.specs.declared.parts.Event.{Event}
+use Rattle.tabletexts.specs.Table.{FirstLine, number_in, lengths_in, lines, event_in, event_on, events_from}
 
 -- p is the next piece, behind k of them
 pub record Next (ps : List (List ℕ)) (k : ℕ) (p : List ℕ) : Type 0 where
@@ -58,41 +57,10 @@ pub some_line : (n : ℕ) (l : List ℕ) (ls : List (List ℕ)) → 0 < length l
 some_line n [] ls h = absurd (omega arith)
 some_line n (b ∷ bs) ls h = refl
 
--- the lines ls, the first of which is the second of the text, and of which k were read as es
-module _ (says : Result (List Event) ℕ) (es : List Event) (ls : List (List ℕ)) (k : ℕ) (inv : onto es (events_from (k + 2) (drop k ls)) ≡ says) where
-  pub events_end : k ≡ length ls → says ≡ Ok es
-  events_end e =
-      sym inv ∙ ap (λ ks. onto es (events_from (k + 2) ks)) (drop_all k ls (omega arith)) ∙ ap Ok (append-nil es)
-
-  -- the next line
-  module _ (l : List ℕ) (next : Next ls k l) where
-    later : (fs : List Event) (n : ℕ) → n ≡ k + 1 → onto fs (events_from (n + 2) (drop n ls)) ≡ onto fs (events_from (k + 2 + 1) (drop (k + 1) ls))
-    later fs n more =
-        ap (λ (m : ℕ). onto fs (events_from (m + 2) (drop m ls))) more
-        ∙ ap (λ (m : ℕ). onto fs (events_from m (drop (k + 1) ls))) (let same : k + 1 + 2 ≡ k + 2 + 1 = omega arith in same)
-
-    pub events_stop : 0 < length l → None ≡ event_on l → says ≡ Err (k + 2)
-    events_stop some none =
-        sym inv
-        ∙ ap (λ ks. onto es (events_from (k + 2) ks)) next.is
-        ∙ ap (onto es) (some_line (k + 2) l (drop (k + 1) ls) some)
-        ∙ ap (λ o. onto es (then ◌∷◌ (ok_or o (k + 2)) (events_from (k + 2 + 1) (drop (k + 1) ls)))) (sym none)
-
-    pub events_more : (e : Event) (fs : List Event) (n : ℕ) → 0 < length l → Some e ≡ event_on l → fs ≡ es ++ e ∷ [] → n ≡ k + 1 → onto fs (events_from (n + 2) (drop n ls)) ≡ says
-    events_more e fs n some event push more =
-        later fs n more
-        ∙ ap (λ gs. onto gs (events_from (k + 2 + 1) (drop (k + 1) ls))) push
-        ∙ sym (onto_more es e (events_from (k + 2 + 1) (drop (k + 1) ls)))
-        ∙ ap (λ o. onto es (then ◌∷◌ (ok_or o (k + 2)) (events_from (k + 2 + 1) (drop (k + 1) ls)))) event
-        ∙ ap (onto es) (sym (some_line (k + 2) l (drop (k + 1) ls) some))
-        ∙ ap (λ ks. onto es (events_from (k + 2) ks)) (sym next.is)
-        ∙ inv
-
-    pub events_pass : (n : ℕ) → length l ≡ 0 → n ≡ k + 1 → onto es (events_from (n + 2) (drop n ls)) ≡ says
-    events_pass n none more =
-        later es n more
-        ∙ ap (λ ks. onto es (events_from (k + 2) ks)) (sym (next.is ∙ ap (λ q. q ∷ drop (k + 1) ls) (nil_from_length l none)))
-        ∙ inv
+-- the first line of a text, as `cut` gives it
+pub first_line : (text line : List ℕ) (o : Option (Bor (List ℕ))) (rest none : Bor (List ℕ)) → lines text ≡ line ∷ pieces_after 10 o → rest ≡ unwrap_or o none → none.now ≡ [] → FirstLine text line rest.now
+first_line text line None rest none cut is empty = inr (cut, ap (λ (r : Bor (List ℕ)). r.now) is ∙ empty)
+first_line text line (Some more) rest none cut is empty = inl (cut ∙ ap (λ (r : Bor (List ℕ)). line ∷ lines r.now) (sym is))
 
 -- a text has a piece at least
 pub some_piece : (s : ℕ) (text : List ℕ) → (p : List ℕ) × (ps : List (List ℕ)) × (pieces s text ≡ p ∷ ps)

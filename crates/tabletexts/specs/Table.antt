@@ -1,5 +1,5 @@
 -- What a table's text says: lengths on the first line, and then an event on each line that is not empty.
-use Rattle.std.specs.Prelude.{ℕ, ◌+◌, List, [], ◌∷◌, Some, None, Ok, vec_items, Option, Result}
+use Rattle.std.specs.Prelude.{◌≡◌, ℕ, ◌+◌, ◌⊎◌, List, [], ◌∷◌, Some, None, Ok, vec_items, Option, Result}
 use Rattle.std.specs.Option.{ok_or}
 use Rattle.charts.specs.declared.parts.Event.{Event}
 use Rattle.charts.specs.Events.{event}
@@ -11,6 +11,10 @@ use Rattle.tabletexts.specs.Pieces.{pieces}
 -- the lines of a text: the pieces between its line feeds
 abbrev pub lines : List ℕ → List (List ℕ)
 lines text = pieces 10 text
+
+-- the first line of a text, and the text behind it, which is empty where no line feed ends the line
+abbrev pub FirstLine : List ℕ → List ℕ → List ℕ → Type 0
+FirstLine text line rest = (lines text ≡ line ∷ lines rest) ⊎ ((lines text ≡ line ∷ []) × (rest ≡ []))
 
 -- the fields of a line: the pieces between its spaces
 abbrev pub fields : List ℕ → List (List ℕ)

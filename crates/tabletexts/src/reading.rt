@@ -1,7 +1,8 @@
-ghost use Rattle.std.specs.Prelude.{◌≡◌, ◌<◌, ◌≤◌, ◌∷◌, length, IfSome, Ok, vec_items};
+ghost use Rattle.std.specs.Prelude.{◌≡◌, ◌<◌, ◌≤◌, [], ◌∷◌, length, IfSome, MatchOption, Ok, vec_items};
+ghost use Rattle.std.specs.Iterator.{at_most};
 ghost use Rattle.tabletexts.specs.Outcome.{Answers};
 ghost use Rattle.tabletexts.specs.Pieces.{pieces, pieces_after};
-ghost use Rattle.tabletexts.specs.Table.{Table, event_on, events_from, held, lengths_on, lines, number_in, reading};
+ghost use Rattle.tabletexts.specs.Table.{FirstLine, Table, event_on, events_from, held, lengths_on, lines, number_in, reading};
 ghost use Rattle.tabletexts.specs.Written.{FitsTable, written};
 
 use crate::parts::{TableText, Unread};
@@ -82,12 +83,33 @@ pub fn read_event(line: &[u8]) -> Option<Event>
     })
 }
 
+// The lines of a text, but for an empty one at its end. No `split`, which takes longer over empty lines.
+#[derive(Drop)]
+struct Lines<'t>(&'t [u8]);
+
+impl<'t> Iterator for Lines<'t> {
+    type Item = &'t [u8];
+
+    ghost next_gives = { λ s r t. MatchOption r (s.0.now ≡ []) (λ line. FirstLine s.0.now line.now t.0.now) };
+
+    ghost remaining = { λ s. at_most (length s.0.now) };
+
+    fn next(&mut self) -> Option<&'t [u8]> {
+        if self.0.is_empty() {
+            return None;
+        }
+        let (line, rest) = cut(self.0, b'\n');
+        self.0 = rest.unwrap_or(&[]);
+        Some(line)
+    }
+}
+
 // The events on the lines of the text, the first of which is the second of the table.
 fn read_events(heap: Global, text: &[u8]) -> Result<Vec<Event>, Unread>
     ensures { Answers vec_items (events_from 2 (lines text.now)) result }
 {
     let mut events = Vec::new(heap);
-    for (i, line) in text.split(|b| *b == b'\n').enumerate() {
+    for (i, line) in Lines(text).enumerate() {
         if !line.is_empty() {
             let Some(event) = read_event(line) else {
                 return Err(Unread::Line(i + 2));
