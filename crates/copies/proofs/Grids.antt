@@ -97,18 +97,28 @@ module _ (g : Grid) where
       let s = sum_before lengths i j b (omega arith) in
       omega arith
 
-  -- the places of an instance are in the table
-  pub grid_room : (i : ℕ) → i < g.width → (get_or g.columns i no_column).start + count_of (grid_lists g) i ≤ 4096
-  grid_room i w =
+  -- the places of an instance are among those of the events
+  grid_end : (i : ℕ) → i < g.width → (get_or g.columns i no_column).start + count_of (grid_lists g) i ≤ g.events
+  grid_end i w =
       let s = grid_start i w in
       let n = cut_count lengths (events_in g.slots) i fits in
       let long = lengths_long in
       let m = sum_by_more (λ x. x) lengths i 0 (omega arith) in
       let b = sum_by-take-le (λ x. x) lengths (i + 1) in
+      let t = g.total in
+      omega arith
+
+  -- and in the table
+  pub grid_few : g.events ≤ 4096
+  grid_few =
+      let t = g.total in
       let f = fits in
       let z = g.long in
       let e = length-map g.slots (λ s. s.event) in
       omega arith
+
+  pub grid_room : (i : ℕ) → i < g.width → (get_or g.columns i no_column).start + count_of (grid_lists g) i ≤ 4096
+  grid_room i w = let n = grid_end i w in let f = grid_few in omega arith
 
   pub first_columns : length (take g.width g.columns) ≡ g.width
   first_columns = let w = g.wide in let n = g.narrow in length-take-le g.width g.columns (omega arith)
@@ -135,6 +145,9 @@ module _ (g : Grid) where
 
   pub grid_within : (i k : ℕ) → k < count_of (grid_lists g) i → place_of g.columns i k < 4096
   grid_within i k h = let r = grid_room i (grid_instance i k h) in omega arith
+
+  pub grid_among : (i k : ℕ) → k < count_of (grid_lists g) i → place_of g.columns i k < g.events
+  grid_among i k h = let n = grid_end i (grid_instance i k h) in omega arith
 
   -- the slot at its place has the event
   pub grid_event : (i k : ℕ) → k < count_of (grid_lists g) i → event_of (grid_lists g) i k ≡ (get_or g.slots (place_of g.columns i k) no_slot).event

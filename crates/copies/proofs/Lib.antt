@@ -6,5 +6,6 @@ pub mod Notes
 pub mod Partners
 pub mod Links
 pub mod Ranks
-pub mod Fillings
+pub mod Rerankings
+pub mod Mates
 pub mod Kept

@@ -1,4 +1,4 @@
--- The other event of a message, and the messages ahead of it, as the noted places have them.
+-- The other event of a message, and its place as it was noted.
 use Rattle.std.proofs.Common.{◌≡◌, ℕ, zero, suc, ◌+◌, ◌<◌, ◌≤◌, Bool, cond, ltb, List, length, get_or, take, count_by, Some, sym, refl, ap, ◌∙◌, inl, inr, arith}
 use Rattle.std.proofs.lemmas.List.{take_all}
 use Rattle.std.proofs.lemmas.List.Sums.{sum_by_more}
@@ -43,11 +43,13 @@ module _ (L : List (List Event)) (sound : Sound L) where
             ∙ same_test (input_place s m (column L i)) (count_of L i) (input_place s m (column L i)) k (λ x. omega arith) (λ x. omega arith)
       ]
 
+  input_event : (i k : ℕ) (e : Event) → At L i k e → e.kind ≡ input → At L i k (event input e.peer e.number)
+  input_event i k e a of = record { within = a.within; is = a.is ∙ (λ t. record { kind = of t; peer = e.peer; number = e.number }) }
+
   -- the output of an input between instances stands on the sender
   pub sent_within : (i k : ℕ) (e : Event) → At L i k e → e.kind ≡ input → e.peer < length L → sent_at L i e < count_of L e.peer
   sent_within i k e a of h =
-      let b : At L i k (event input e.peer e.number) = record { within = a.within; is = a.is ∙ (λ t. record { kind = of t; peer = e.peer; number = e.number }) } in
-      let r = sound.inputs_matched e.number i k e.peer b h in
+      let r = sound.inputs_matched e.number i k e.peer (input_event i k e a of) h in
       let p = found L sound e.peer i e.number r.0 r.1 in
       let w = r.1.within in
       omega arith
@@ -60,14 +62,7 @@ module _ (L : List (List Event)) (sound : Sound L) where
         noted j r.0 (event input i n) Input r.1 h refl ∙ ap Some (sym (input_found L sound i j n r.0 r.1))
 
     -- the output of an input between instances
-    pub record Sent (i : ℕ) (e : Event) : Type 0 where
-      pub place : place_of m Output e.number ≡ Some (sent_at L i e)
-      pub within : sent_at L i e < count_of L e.peer
-
-    pub output_noted : (i k : ℕ) (e : Event) → At L i k e → e.kind ≡ input → e.peer < length L → Sent i e
+    pub output_noted : (i k : ℕ) (e : Event) → At L i k e → e.kind ≡ input → e.peer < length L → place_of m Output e.number ≡ Some (sent_at L i e)
     output_noted i k e a of h =
-        let b : At L i k (event input e.peer e.number) = record { within = a.within; is = a.is ∙ (λ t. record { kind = of t; peer = e.peer; number = e.number }) } in
-        let r = sound.inputs_matched e.number i k e.peer b h in
-        let p = found L sound e.peer i e.number r.0 r.1 in
-        let w = r.1.within in
-        record { place = noted e.peer r.0 (event output i e.number) Output r.1 h refl ∙ ap Some (sym p); within = omega arith }
+        let r = sound.inputs_matched e.number i k e.peer (input_event i k e a of) h in
+        noted e.peer r.0 (event output i e.number) Output r.1 h refl ∙ ap Some (sym (found L sound e.peer i e.number r.0 r.1))

@@ -4,4 +4,4 @@ pub mod Grids
 pub mod Kept
 pub mod Noted
 pub mod Linked
-pub mod Filled
+pub mod Reranked

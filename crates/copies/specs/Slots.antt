@@ -23,10 +23,6 @@ ahead_of L i k e = cond (between L e && e.kind == input) (passing L e.peer i (se
 abbrev pub slot_of : List (List Event) → ℕ → ℕ → Slot
 slot_of L i k = record { event = event_of L i k; mate = mate_of L i (event_of L i k); ahead = ahead_of L i k (event_of L i k) }
 
--- the same before the messages ahead of it are counted
-abbrev pub mated_of : List (List Event) → ℕ → ℕ → Slot
-mated_of L i k = record { event = event_of L i k; mate = mate_of L i (event_of L i k); ahead = 0 }
-
 -- the slot's event is an output to instance i whose input stands there at k or after it
 abbrev pub is_ahead : ℕ → ℕ → Slot → Bool
 is_ahead i k s = output_to i s.event && nat_le k s.mate

@@ -5,8 +5,11 @@ ghost use Rattle.copies.specs.Slots.{slot_at};
 
 use crate::grid::Grid;
 use crate::indexed::Indexed;
+use crate::linker::Linker;
+use crate::noting::note_messages;
 use crate::parts::Slot;
 use charts::{Chart, Fault};
+use messages::MessagePlaces;
 
 impl Indexed {
     // A copy of any chart.
@@ -15,7 +18,16 @@ impl Indexed {
         ensures fault { result.fault ≡ C.trouble chart.now }
     {
         let fault = chart.fault();
-        let grid = Grid::new(chart).mated().ranked();
+        let mut grid = Grid::new(chart);
+        let mut places = MessagePlaces::new();
+        note_messages(&mut places, &grid);
+        let linker = Linker {
+            width: grid.width,
+            events: grid.events,
+            places: &places,
+        };
+        linker.fill(&mut grid.slots);
+        grid.rank();
         Indexed { grid, fault }
     }
 

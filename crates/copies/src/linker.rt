@@ -1,13 +1,13 @@
-ghost use Rattle.copies.specs.Kept.{grid_lists};
-ghost use Rattle.copies.specs.Noted.{Noted};
+ghost use Rattle.std.specs.Prelude.{◌≤◌};
 
-use crate::grid::Grid;
 use messages::MessagePlaces;
 
-// A grid, and where the events of its messages stand on their instances.
+// How many instances and events a chart has, and where the events of its messages stand.
 #[derive(Clone, Copy)]
-pub(crate) struct Linker<'g> {
-    pub(crate) grid: &'g Grid,
-    pub(crate) places: &'g MessagePlaces,
-    ghost noted: { Noted (grid_lists grid.now) places.now },
+pub(crate) struct Linker<'p> {
+    pub(crate) width: usize,
+    pub(crate) events: usize,
+    pub(crate) places: &'p MessagePlaces,
+    ghost narrow: { width ≤ 32 },
+    ghost few: { events ≤ 4096 },
 }

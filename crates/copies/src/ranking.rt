@@ -1,10 +1,9 @@
 ghost use Rattle.std.specs.Prelude.{◌≡◌, ℕ, ◌<◌, length, slice_index_or};
-ghost use Rattle.charts.specs.Lists.{At, count_of};
+ghost use Rattle.charts.specs.Lists.{At, count_of, event_of};
 ghost use Rattle.orders.specs.Passing.{passing};
-ghost use Rattle.copies.specs.Filled.{Filled};
-ghost use Rattle.copies.specs.Grids.{Mated, Ranked, no_slot};
+ghost use Rattle.copies.specs.Grids.{Mated, Ranked, no_slot, place_of};
 ghost use Rattle.copies.specs.Kept.{grid_lists};
-ghost use Rattle.copies.specs.Lists.{events_in};
+ghost use Rattle.copies.specs.Reranked.{Reranked};
 ghost use Rattle.copies.specs.Slots.{ahead_of, is_ahead, mate_of, slot_of};
 
 use crate::grid::Grid;
@@ -50,41 +49,30 @@ impl Grid {
     }
 
     // Fills in how many messages are ahead of those that instance i inputs.
-    fn rank_column(&self, slots: &mut [Slot], i: usize)
-        requires mated { Mated self.now.width self.now.columns self.now.slots }
-        requires whole { length slots.old ≡ count_of (grid_lists self.now) i }
-        ensures { (k : ℕ) → k < length slots.new → slice_index_or slots.new k no_slot ≡ slot_of (grid_lists self.now) i k }
+    fn rank_column(&mut self, i: usize)
+        requires here { i < self.old.width }
+        requires mated { Mated self.old.width self.old.columns self.old.slots }
+        ensures same { Reranked self.old self.new }
+        ensures ranked { (k : ℕ) → k < count_of (grid_lists self.old) i → (slice_index_or self.new.slots (place_of self.old.columns i k) no_slot).ahead ≡ ahead_of (grid_lists self.old) i k (event_of (grid_lists self.old) i k) }
+        ensures before { (p : ℕ) → p < place_of self.old.columns i 0 → slice_index_or self.new.slots p no_slot ≡ slice_index_or self.old.slots p no_slot }
     {
-        for (k, mated) in self.column(i).iter().enumerate() {
-            slots[k] = Slot {
-                event: mated.event,
-                mate: mated.mate,
-                ahead: self.ahead(i, k, *mated),
-            };
+        let places = self.places(i);
+        // By places among all, as the grid is read while its slots are filled in.
+        for at in places.start..places.end {
+            let ahead = self.ahead(i, at - places.start, self.slots[at]);
+            self.slots[at].ahead = ahead;
         }
     }
 
     // Fills in how many messages are ahead of those that are input, on all instances.
-    fn rank(&self, slots: &mut [Slot; 4096])
-        requires mated { Mated self.now.width self.now.columns self.now.slots }
-        requires same { events_in slots.old ≡ events_in self.now.slots }
-        ensures { Filled (slot_of (grid_lists self.now)) self.now self.now.width slots.new }
+    pub(crate) fn rank(&mut self)
+        requires { Mated self.old.width self.old.columns self.old.slots }
+        ensures lists { grid_lists self.new ≡ grid_lists self.old }
+        ensures mated { Mated self.new.width self.new.columns self.new.slots }
+        ensures ranked { Ranked self.new.width self.new.columns self.new.slots }
     {
         for i in 0..self.width {
-            let places = self.places(i);
-            self.rank_column(&mut slots[places], i);
+            self.rank_column(i);
         }
-    }
-
-    // The same events, each with what is fixed of it, where each has the other event of its message already.
-    pub(crate) fn ranked(&self) -> Grid
-        requires { Mated self.now.width self.now.columns self.now.slots }
-        ensures lists { grid_lists result ≡ grid_lists self.now }
-        ensures mated { Mated result.width result.columns result.slots }
-        ensures ranked { Ranked result.width result.columns result.slots }
-    {
-        let mut grid = *self;
-        self.rank(&mut grid.slots);
-        grid
     }
 }

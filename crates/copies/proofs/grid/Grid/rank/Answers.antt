@@ -1,22 +1,23 @@
-use Rattle.std.proofs.Common.{◌≡◌, ◌-◌, length, drop, refl, ap, arith}
-use Rattle.std.proofs.lemmas.List.{length-drop, length-map, length-take}
-use Rattle.charts.specs.Lists.{count_of}
-use Rattle.copies.specs.Kept.{grid_lists}
-use Rattle.copies.specs.Slots.{slot_of}
-use Rattle.copies.proofs.Fillings.{filled_more}
+use Rattle.std.proofs.Common.{◌≡◌, subst, arith}
+use Rattle.copies.proofs.Rerankings.{RankedTo, same_lists, still_mated, both_times, ranked_more, all_ranked}
 use Rattle.copies.proofs.grid.Grid.rank.Goals as goal
+
+pub rank_column-requires-clause-mated : goal.rank_column-requires-clause-mated
+rank_column-requires-clause-mated c = still_mated c.args.self.now c.loop-i.self c.loop-i.invariant.same c.requires
 
 pub loop-i-preserved : goal.loop-i-preserved
 loop-i-preserved c =
     let g = c.args.self.now in
-    let p = c.places-places.result in
-    let n : p.end - p.start ≡ count_of (grid_lists g) c.loop-i.i = omega arith in
-    let own = length-map g.slots (λ s. s.event) in
-    let part = length-map c.loop-i.slots (λ s. s.event) in
-    let same = ap length c.loop-i.invariant.same in
-    let all = g.long in
-    let long : length c.loop-i.slots ≡ 4096 = omega arith in
-    let t = length-take (p.end - p.start) (drop p.start c.loop-i.slots) in
-    let d = length-drop p.start c.loop-i.slots in
-    let whole : length c.rank_column.new.slots ≡ count_of (grid_lists g) c.loop-i.i = omega arith in
-    rw n (filled_more (slot_of (grid_lists g)) g (λ i k. refl) c.loop-i.i p.start c.loop-i-test.true (c.places-places.ensures.start c.loop-i-test.true) c.loop-i.slots c.rank_column.new.slots long c.loop-i.invariant whole c.rank_column.ensures)
+    let h = c.loop-i.self in
+    let n = c.rank_column.new.self in
+    let so = c.loop-i.invariant in
+    let own = c.rank_column.ensures in
+    record { same = both_times g h n so.same own.same; ranked = ranked_more g h n so.same c.loop-i.i c.loop-i-test.true so.ranked own.ranked own.before }
+
+pub returns : goal.returns
+returns c =
+    let g = c.args.self.now in
+    let h = c.loop-i.self in
+    let so = c.loop-i.invariant in
+    let end : c.loop-i.i ≡ g.width = omega arith in
+    record { lists = same_lists g h so.same; mated = still_mated g h so.same c.requires; ranked = all_ranked g h so.same (subst (RankedTo g h) end so.ranked) }

@@ -1,7 +1,6 @@
-use Rattle.copies.specs.Filled.{Filled}
-use Rattle.copies.specs.Kept.{grid_lists}
-use Rattle.copies.specs.Slots.{slot_of}
+use Rattle.copies.specs.Reranked.{Reranked}
+use Rattle.copies.proofs.Rerankings.{RankedTo}
 use Rattle.copies.proofs.grid.Grid.rank.Given as goal
 
 abbrev pub invariant-loop-i : goal.invariant-loop-i
-invariant-loop-i l = Filled (slot_of (grid_lists l.self)) l.self l.i l.slots
+invariant-loop-i l = record { same : Reranked l.initial.self l.self; ranked : RankedTo l.initial.self l.self l.i }

@@ -1,21 +1,13 @@
-use Rattle.std.proofs.Common.{◌≡◌, ◌<◌, length, ◌∙◌, arith}
-use Rattle.copies.specs.Linked.{linked_lists}
-use Rattle.copies.specs.Slots.{mate_of}
-use Rattle.copies.proofs.Links.{mated_is, mate_noted}
+use Rattle.std.proofs.Common.{◌≡◌, ◌<◌, ℕ, false, length, MatchOption, Option, sym, refl, ◌∙◌, subst, arith}
+use Rattle.copies.specs.Slots.{between, mate_of}
+use Rattle.copies.proofs.Links.{mate_noted}
 use Rattle.copies.proofs.linker.Linker.link.Goals as goal
 
-pub returns-in_err-mate : goal.returns-in_err-mate
-returns-in_err-mate c i k a =
-    let e = c.args.event in
-    let w : e.peer < length (linked_lists c.args.self.now) = omega arith in
-    let found = c.mate.ensures ∙ mate_noted c.args.self.now i k e a w c.in_ok-end.end c.in_ok-end.ensures.0 in
-    absurd (cc (found, c.in_err-mate.was))
-
 pub returns : goal.returns
-returns c i k a =
+returns c L i k so a =
     let x = c.args.self.now in
     let e = c.args.event in
-    let w : e.peer < length (linked_lists x) = omega arith in
-    let found = c.mate.ensures ∙ mate_noted x i k e a w c.in_ok-end.end c.in_ok-end.ensures.0 in
-    let mate : c.in_ok-mate.mate ≡ mate_of (linked_lists x) i e = cc (found, c.in_ok-mate.was) in
-    mated_is (linked_lists x) i k e c.in_ok-mate.mate a mate
+    let wide = so.wide in
+    let w : e.peer < length L = omega arith in
+    let found = c.mate.ensures ∙ mate_noted x L so i k e a w c.in_ok-end.end c.in_ok-end.ensures.0 in
+    subst (λ (o : Option ℕ). MatchOption o (between L e ≡ false) (λ mate. mate ≡ mate_of L i e)) (sym found) refl
